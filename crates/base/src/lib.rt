@@ -1,0 +1,1 @@
+// Vocabulary that all crates share: definitions and laws only, in specs/.

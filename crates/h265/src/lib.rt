@@ -1,0 +1,1 @@
+// Rec. ITU-T H.265, palette mode: definitions and laws only, in specs/.
