@@ -16,3 +16,8 @@ any (b ∷ bs) = pick b true (any bs)
 unfoldable pub upTo : ℕ → (ℕ → Bool) → Bool
 upTo zero f = true
 upTo (suc n) f = pick (upTo n f) (f n) false
+
+-- the number of the first test that fails, 0 where all hold
+abbrev pub refusal : List (Bool × ℕ) → ℕ
+refusal [] = 0
+refusal ((t, k) ∷ ts) = pick t (refusal ts) k
