@@ -10,4 +10,5 @@ pub mod RunLaws
 pub mod Turns
 pub mod Reuse
 pub mod ReuseLaws
+pub mod ReuseTurns
 pub mod Places
