@@ -5,5 +5,6 @@ pub mod Codes
 pub mod Laid
 pub mod Cells
 pub mod Counted
+pub mod Prepend
 pub mod Powers
 pub mod Tests
