@@ -390,7 +390,7 @@ pub fn drawn_flags(random: &mut Random) -> Code {
 }
 
 /// A code of the same kind, drawn from its whole domain.
-fn drawn(kind: usize, random: &mut Random) -> Code {
+pub fn drawn(kind: usize, random: &mut Random) -> Code {
     match kind {
         0 => {
             let n = random.below(33) as u32;
@@ -416,9 +416,11 @@ fn drawn(kind: usize, random: &mut Random) -> Code {
     }
 }
 
-const PUT: [&str; 7] = ["put-bits", "put-tb", "put-egk", "put-held", "put-count", "put-run", "put-reuse"];
-const GET: [&str; 7] = ["get-bits", "get-tb", "get-egk", "get-held", "get-count", "get-run", "get-reuse"];
-const DAMAGED: [&str; 7] =
+/// How many kinds of code have a writer.
+pub const KINDS: usize = 7;
+const PUT: [&str; KINDS] = ["put-bits", "put-tb", "put-egk", "put-held", "put-count", "put-run", "put-reuse"];
+const GET: [&str; KINDS] = ["get-bits", "get-tb", "get-egk", "get-held", "get-count", "get-run", "get-reuse"];
+const DAMAGED: [&str; KINDS] =
     ["damaged-bits", "damaged-tb", "damaged-egk", "damaged-held", "damaged-count", "damaged-run", "damaged-reuse"];
 
 fn all(kind: usize) -> Box<dyn Iterator<Item = Code>> {
@@ -485,7 +487,7 @@ pub fn compare(report: &mut Report) {
             foreign.chain([Harm::Cut]).map(move |harm| Damaged { code: code.clone(), at: 1, place: 0, harm })
         }),
     );
-    for kind in 0..PUT.len() {
+    for kind in 0..KINDS {
         compare_kind(report, kind);
     }
     report.compare("over-range", over());

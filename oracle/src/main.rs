@@ -6,12 +6,14 @@ include!(concat!(env!("OUT_DIR"), "/source.rs"));
 
 mod bins;
 mod codes;
+mod list;
 mod port;
 mod quant;
 mod report;
 mod scan;
 
 use report::Report;
+use std::path::Path;
 use std::process::ExitCode;
 
 const USAGE: &str = "usage: oracle/run [--seed N] [--count N] [--only NAME] | --list";
@@ -39,6 +41,15 @@ fn main() -> ExitCode {
         }
     }
     print!("{}", include_str!(concat!(env!("OUT_DIR"), "/difference.txt")));
+    if list {
+        return match list::write(Path::new(concat!(env!("CARGO_MANIFEST_DIR"), "/../crates/answers"))) {
+            Ok(()) => ExitCode::SUCCESS,
+            Err(why) => {
+                eprintln!("the list is not written: {why}");
+                ExitCode::FAILURE
+            }
+        };
+    }
     let mut report = Report::new(seed, count, only);
     scan::compare(&mut report);
     quant::compare(&mut report);

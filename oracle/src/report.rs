@@ -37,7 +37,7 @@ impl Report {
 
     /// Random numbers of this comparison's own, the same in every run with this seed.
     pub fn random(&self, name: &str) -> Random {
-        Random(name.bytes().fold(self.seed, |s, b| (s ^ u64::from(b)).wrapping_mul(0x100_0000_01b3)))
+        Random::new(name.bytes().fold(self.seed, |s, b| (s ^ u64::from(b)).wrapping_mul(0x100_0000_01b3)))
     }
 
     pub fn compare<C: Case>(&mut self, name: &'static str, cases: impl IntoIterator<Item = C>) {
@@ -130,6 +130,10 @@ impl Progress {
 pub struct Random(u64);
 
 impl Random {
+    pub fn new(seed: u64) -> Random {
+        Random(seed)
+    }
+
     pub fn next(&mut self) -> u64 {
         self.0 = self.0.wrapping_add(0x9E37_79B9_7F4A_7C15);
         let mut z = self.0;

@@ -1,0 +1,22 @@
+-- What the exported readers lay: the definition's answer within the leaf's domain, else nothing.
+use mathlib.Core.List.{List, [], _∷_}
+use Prim.Native.Nat.{ℕ}
+use lib.Dec.{ltb}
+use Rattle.base.specs.Pick.{pick}
+use Rattle.base.specs.Answer.{Answer, Value, Refused, onward}
+use Rattle.h265.specs.Strings.{bit}
+use Rattle.h265.specs.Parse.{binAt, bitsAt, tbAt}
+
+-- an answer as three numbers
+abbrev pub three : Answer ℕ → List ℕ
+three (Value v q) = 0 ∷ v ∷ q ∷ []
+three (Refused k q) = k ∷ 0 ∷ q ∷ []
+
+unfoldable pub binOut : ℕ → List ℕ → ℕ → List ℕ
+binOut class l at = three (onward (binAt class l at) (λ b q. Value (bit b) q))
+
+unfoldable pub bitsOut : ℕ → List ℕ → ℕ → List ℕ
+bitsOut n l at = pick (ltb 32 n) [] (three (bitsAt n l at))
+
+unfoldable pub tbOut : ℕ → List ℕ → ℕ → List ℕ
+tbOut n l at = pick (ltb n 1) [] (pick (ltb 65536 n) [] (three (tbAt n l at)))

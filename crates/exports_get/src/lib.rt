@@ -1,0 +1,76 @@
+// The readers of single codes for other languages, nothing required. An answer is three numbers laid at the start of `out`, as far as it reaches: 0, the value and the next place; or a refusal's number, 0 and its place. Outside a reader's domain nothing is laid.
+ghost use mathlib.Core.Path.{_≡_};
+ghost use mathlib.Core.List.{[], _∷_};
+ghost use lib.ListN.{set};
+ghost use lib.Seq.{sets};
+ghost use Rattle.bins.specs.As.{asNumber};
+ghost use Rattle.exports_get.specs.Laid.{three, binOut, bitsOut, tbOut};
+use bins::Bin;
+use bins::Number;
+use get::bin_at;
+use get::bits_at;
+use get::tb_at;
+
+// x at place i, where there is one.
+fn store(out: &mut [u64], i: usize, x: u64)
+    ensures { λ _. ⌜ now (out .exit) ≡ set (now (out .entry)) i x ⌝ }
+{
+    if i < out.len() {
+        out[i] = x;
+    }
+}
+
+// Three numbers.
+fn lay(out: &mut [u64], number: u64, value: u64, place: u64)
+    ensures { λ _. ⌜ now (out .exit) ≡ sets (now (out .entry)) 0 (number ∷ value ∷ place ∷ []) ⌝ }
+{
+    store(out, 0, number);
+    store(out, 1, value);
+    store(out, 2, place);
+}
+
+// A reader's answer.
+fn lay_number(out: &mut [u64], n: Number)
+    ensures { λ _. ⌜ now (out .exit) ≡ sets (now (out .entry)) 0 (three (asNumber n)) ⌝ }
+{
+    match n {
+        Number::Is(v, q) => lay(out, 0, v as u64, q as u64),
+        Number::Refused(k, q) => lay(out, k as u64, 0, q as u64),
+    }
+}
+
+// A bin of class `class`, 0 or 1.
+#[no_mangle]
+pub extern "C" fn velomitra_bin_at(list: &[u8], at: usize, class: u8, out: &mut [u64])
+    ensures { λ _. ⌜ now (out .exit) ≡ sets (now (out .entry)) 0 (binOut class (now (list .entry)) at) ⌝ }
+{
+    match bin_at(list, at, class) {
+        Bin::Is(b, q) => lay(out, 0, b as u64, q as u64),
+        Bin::Refused(k, q) => lay(out, k as u64, 0, q as u64),
+    }
+}
+
+// A value of n bits.
+#[no_mangle]
+pub extern "C" fn velomitra_bits_at(list: &[u8], at: usize, n: u32, out: &mut [u64])
+    ensures { λ _. ⌜ now (out .exit) ≡ sets (now (out .entry)) 0 (bitsOut n (now (list .entry)) at) ⌝ }
+{
+    if 32 < n {
+        return;
+    }
+    lay_number(out, bits_at(list, at, n));
+}
+
+// Truncated binary over n values.
+#[no_mangle]
+pub extern "C" fn velomitra_tb_at(list: &[u8], at: usize, n: u32, out: &mut [u64])
+    ensures { λ _. ⌜ now (out .exit) ≡ sets (now (out .entry)) 0 (tbOut n (now (list .entry)) at) ⌝ }
+{
+    if n < 1 {
+        return;
+    }
+    if 65536 < n {
+        return;
+    }
+    lay_number(out, tb_at(list, at, n));
+}

@@ -1,0 +1,16 @@
+-- Which bins the exported writers lay: the definition's within the leaf's domain, else none.
+use mathlib.Core.List.{List, []}
+use Prim.Native.Nat.{ℕ}
+use lib.Dec.{ltb, leb}
+use Rattle.base.specs.Pick.{pick}
+use Rattle.h265.specs.Strings.{bits, tb}
+
+-- none from a place so far on that the next could not be told
+abbrev pub near : ℕ → List ℕ → List ℕ
+near at s = pick (ltb 4611686018427387904 at) [] s
+
+unfoldable pub bitsOut : ℕ → ℕ → List ℕ
+bitsOut n value = pick (ltb 32 n) [] (bits n value)
+
+unfoldable pub tbOut : ℕ → ℕ → List ℕ
+tbOut n v = pick (ltb 65536 n) [] (pick (leb n v) [] (tb n v))
