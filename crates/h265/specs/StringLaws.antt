@@ -6,7 +6,7 @@ use Prim.Native.Nat.{ℕ, zero, suc, _+_, _*_, _-_, _/_, _%_, _^_, _≤_, _<_}
 use native.Mathlib.Nat.{le-refl, div-div-eq-div-mul, mul-add-div-right, mul-add-mod-self-right}
 use native.Mathlib.Omega.{arith}
 use lib.Dec.{ltb}
-use lib.Pow.{pow-pos, pow-mono}
+use lib.Pow.{pow-pos, pow-mono, split as pow-split}
 use lib.ListN.{length}
 use native.Mathlib.Numerals.{add-one}
 use borrow.Author.Tests.{lt-ltb, le-ltb, ltb-true, ltb-false}
@@ -137,3 +137,6 @@ bits-low (suc n) h v =
     let q : h * 2 ^ suc n + v ≡ (h * 2) * 2 ^ n + v = let y : 2 ^ suc n ≡ 2 * 2 ^ n = omega arith in rw y (omega arith) in
     let d : ((h * 2) * 2 ^ n + v) / 2 ^ n ≡ h * 2 + v / 2 ^ n = mul-add-div-right (pow-pos n) (h * 2) v in
     rw (q, d, mul-add-mod-self-right h 2 (v / 2 ^ n), bits-low n (h * 2) v)
+
+pub bits-mod : (n v : ℕ) → bits n (v % 2 ^ n) ≡ bits n v
+bits-mod n v = sym (bits-low n (v / 2 ^ n) (v % 2 ^ n)) ∙ rw (pow-split v n)
