@@ -3,7 +3,7 @@ use mathlib.Core.List.{List, []}
 use Prim.Native.Nat.{ℕ}
 use lib.Dec.{ltb, leb}
 use Rattle.base.specs.Pick.{pick}
-use Rattle.h265.specs.Strings.{bits, tb}
+use Rattle.h265.specs.Strings.{bits, tb, egk, countBins}
 
 -- none from a place so far on that the next could not be told
 abbrev pub near : ℕ → List ℕ → List ℕ
@@ -14,3 +14,9 @@ bitsOut n value = pick (ltb 32 n) [] (bits n value)
 
 unfoldable pub tbOut : ℕ → ℕ → List ℕ
 tbOut n v = pick (ltb 65536 n) [] (pick (leb n v) [] (tb n v))
+
+unfoldable pub egkOut : ℕ → ℕ → List ℕ
+egkOut order value = pick (ltb 13 order) [] (pick (ltb 65535 value) [] (egk order value))
+
+unfoldable pub countOut : ℕ → ℕ → List ℕ
+countOut m v = pick (ltb 64 m) [] (pick (ltb 65535 v) [] (countBins m v))
