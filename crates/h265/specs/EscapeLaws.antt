@@ -1,6 +1,6 @@
 -- Steps are from 40 to 294912; the value of an escape level by cases.
 use mathlib.Core.Bool.{Bool, true, false}
-use mathlib.Core.Path.{_≡_, refl}
+use mathlib.Core.Path.{_≡_, refl, _∙_}
 use Prim.Native.Nat.{ℕ, zero, suc, _+_, _*_, _-_, _/_, _%_, _^_, _≤_, _<_, min}
 use native.Mathlib.Nat.{mul-le-mul}
 use native.Mathlib.Omega.{arith}
@@ -67,3 +67,8 @@ value-down step most n = rw (down (suc n * step)) (omega arith)
 pub value-le : (lossless : Bool) (step most : ℕ) (level : ℤ) → escapeValue lossless step most level ≤ most
 unfolding escapeValue
 value-le lossless step most level = omega arith
+
+-- so a level and its part from 0 on have one value
+pub value-from : (step most : ℕ) (level : ℤ) → escapeValue false step most (pos (fromZero level)) ≡ escapeValue false step most level
+value-from step most (pos n) = refl
+value-from step most (negsuc n) = value-up step most 0 ∙ omega (arith, value-down step most n)
