@@ -32,9 +32,13 @@ fn main() {
     fs::write(out.join("source.rs"), modules).unwrap();
 
     let port = here.join("../target/staticlib");
-    println!("cargo:rerun-if-changed={}", port.join("libexports.a").display());
     println!("cargo:rustc-link-search=native={}", port.display());
-    println!("cargo:rustc-link-lib=static=exports");
+    for library in read(&here.join("../crates.txt")).lines().filter_map(|line| line.split_once(':')) {
+        if library.0.starts_with("exports") {
+            println!("cargo:rerun-if-changed={}", port.join(format!("lib{}.a", library.0)).display());
+            println!("cargo:rustc-link-lib=static={}", library.0);
+        }
+    }
 }
 
 fn read(file: &Path) -> String {
