@@ -50,6 +50,11 @@ unfoldable pub raise : ℕ → Answer ℕ → Answer ℕ
 raise k (Value v q) = Value (k + v) q
 raise k (Refused n q) = Refused n q
 
+pub raise-is : (k : ℕ) (a : Answer ℕ) → raise k a ≡ onward a (λ v q. Value (k + v) q)
+unfolding raise
+raise-is k (Value v q) = refl
+raise-is k (Refused n q) = refl
+
 raise-raise : (k : ℕ) (a : Answer ℕ) → raise (k + 1) a ≡ raise k (raise 1 a)
 unfolding raise
 raise-raise k (Value v q) = ap (λ (x : ℕ). Value x q) (omega arith)
