@@ -1,10 +1,15 @@
 // The writers of single codes for other languages, nothing required. Each lays its bins from place `at` on, as far as the list reaches, and answers the place after them; outside its domain it lays none.
+ghost use mathlib.Core.Path.{_≡_};
+ghost use Prim.Native.Nat.{_≤_};
+ghost use lib.ListN.{length, take};
 ghost use Rattle.base.specs.Laid.{Laid};
-ghost use Rattle.exports_put.specs.Bins.{near, bitsOut, tbOut, egkOut, countOut};
+ghost use Rattle.exports_put.specs.Bins.{near, bitsOut, tbOut, egkOut, countOut, runOut, reuseOut};
 use put::put_bits;
 use put::put_tb;
 use putgolomb::put_count;
 use putgolomb::put_egk;
+use putreuse::put_reuse;
+use putrun::put_run;
 
 const FAR: usize = 4611686018427387904;
 
@@ -71,4 +76,52 @@ pub extern "C" fn velomitra_put_count(list: &mut [u8], at: usize, m: u32, v: u32
         return at;
     }
     put_count(list, at, m, v)
+}
+
+// A run of `more` further cells of at most `longest`.
+#[no_mangle]
+pub extern "C" fn velomitra_put_run(list: &mut [u8], at: usize, longest: u32, above: bool, sent: u32, more: u32) -> usize
+    ensures { λ r. ⌜ Laid (now (list .entry)) at (near at (runOut longest above sent more)) r (now (list .exit)) ⌝ }
+{
+    if FAR < at {
+        return at;
+    }
+    if 1024 < longest {
+        return at;
+    }
+    if longest < more {
+        return at;
+    }
+    put_run(list, at, longest, above, sent, more)
+}
+
+// Flags at the start of an array.
+fn gathered(flags: &[bool]) -> [bool; 128]
+    requires { do ⌜ (← ⟦flags.len()⟧) ≤ 128 ⌝ }
+    ensures { λ r. ⌜ take (length (now (flags .entry))) r ≡ now (flags .entry) ⌝ }
+{
+    let mut a = [false; 128];
+    let mut i = 0;
+    while i < flags.len() {
+        a[i] = flags[i];
+        i += 1;
+    }
+    a
+}
+
+// The reuse runs of all flags under a palette limit.
+#[no_mangle]
+pub extern "C" fn velomitra_put_reuse(list: &mut [u8], at: usize, limit: u32, flags: &[bool]) -> usize
+    ensures { λ r. ⌜ Laid (now (list .entry)) at (near at (reuseOut limit (now (flags .entry)))) r (now (list .exit)) ⌝ }
+{
+    if FAR < at {
+        return at;
+    }
+    if 64 < limit {
+        return at;
+    }
+    if 128 < flags.len() {
+        return at;
+    }
+    put_reuse(list, at, limit, gathered(flags), flags.len())
 }
