@@ -5,7 +5,7 @@ use lib.Dec.{ltb}
 use Rattle.base.specs.Pick.{pick}
 use Rattle.base.specs.Answer.{Answer, Value, Refused, onward}
 use Rattle.h265.specs.Strings.{bit}
-use Rattle.h265.specs.Parse.{binAt, bitsAt, tbAt}
+use Rattle.h265.specs.Parse.{binAt, bitsAt, tbAt, egkAt, held, countAt}
 
 -- an answer as three numbers
 abbrev pub three : Answer ℕ → List ℕ
@@ -20,3 +20,12 @@ bitsOut n l at = pick (ltb 32 n) [] (three (bitsAt n l at))
 
 unfoldable pub tbOut : ℕ → List ℕ → ℕ → List ℕ
 tbOut n l at = pick (ltb n 1) [] (pick (ltb 65536 n) [] (three (tbAt n l at)))
+
+unfoldable pub egkOut : ℕ → List ℕ → ℕ → List ℕ
+egkOut order l at = pick (ltb 13 order) [] (three (egkAt order l at))
+
+unfoldable pub heldOut : ℕ → ℕ → List ℕ → ℕ → List ℕ
+heldOut order top l at = pick (ltb 13 order) [] (three (held at top (egkAt order l at)))
+
+unfoldable pub countOut : ℕ → List ℕ → ℕ → List ℕ
+countOut m l at = pick (ltb 64 m) [] (three (countAt m l at))

@@ -4,12 +4,15 @@ ghost use mathlib.Core.List.{[], _∷_};
 ghost use lib.ListN.{set};
 ghost use lib.Seq.{sets};
 ghost use Rattle.bins.specs.As.{asNumber};
-ghost use Rattle.exports_get.specs.Laid.{three, binOut, bitsOut, tbOut};
+ghost use Rattle.exports_get.specs.Laid.{three, binOut, bitsOut, tbOut, egkOut, heldOut, countOut};
 use bins::Bin;
 use bins::Number;
 use get::bin_at;
 use get::bits_at;
 use get::tb_at;
+use getgolomb::count_at;
+use getgolomb::egk_at;
+use getgolomb::held_egk_at;
 
 // x at place i, where there is one.
 fn store(out: &mut [u64], i: usize, x: u64)
@@ -73,4 +76,37 @@ pub extern "C" fn velomitra_tb_at(list: &[u8], at: usize, n: u32, out: &mut [u64
         return;
     }
     lay_number(out, tb_at(list, at, n));
+}
+
+// Exp-Golomb of an order.
+#[no_mangle]
+pub extern "C" fn velomitra_egk_at(list: &[u8], at: usize, order: u32, out: &mut [u64])
+    ensures { λ _. ⌜ now (out .exit) ≡ sets (now (out .entry)) 0 (egkOut order (now (list .entry)) at) ⌝ }
+{
+    if 13 < order {
+        return;
+    }
+    lay_number(out, egk_at(list, at, order));
+}
+
+// Exp-Golomb of an order, of values up to `top`.
+#[no_mangle]
+pub extern "C" fn velomitra_held_egk_at(list: &[u8], at: usize, order: u32, top: u32, out: &mut [u64])
+    ensures { λ _. ⌜ now (out .exit) ≡ sets (now (out .entry)) 0 (heldOut order top (now (list .entry)) at) ⌝ }
+{
+    if 13 < order {
+        return;
+    }
+    lay_number(out, held_egk_at(list, at, order, top));
+}
+
+// The index count, less 1, where M is m.
+#[no_mangle]
+pub extern "C" fn velomitra_count_at(list: &[u8], at: usize, m: u32, out: &mut [u64])
+    ensures { λ _. ⌜ now (out .exit) ≡ sets (now (out .entry)) 0 (countOut m (now (list .entry)) at) ⌝ }
+{
+    if 64 < m {
+        return;
+    }
+    lay_number(out, count_at(list, at, m));
 }
