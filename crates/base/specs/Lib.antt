@@ -5,4 +5,5 @@ pub mod Codes
 pub mod Laid
 pub mod Cells
 pub mod Counted
+pub mod Prepend
 pub mod Powers

@@ -10,6 +10,7 @@ pub mod RunLaws
 pub mod Turns
 pub mod Reuse
 pub mod ReuseLaws
+pub mod ReuseTurns
 pub mod Places
 pub mod Scan
 pub mod ScanLaws

@@ -115,10 +115,16 @@ unfolding lead
 lead-none zero = refl
 lead-none (suc k) = ap suc (lead-none k)
 
-trues-none : (k : ℕ) → trues (replicate k false) ≡ 0
+pub trues-none : (k : ℕ) → trues (replicate k false) ≡ 0
 unfolding trues
 trues-none zero = refl
 trues-none (suc k) = trues-none k
+
+pub trues-append : (fs gs : List Bool) → trues (fs ++ gs) ≡ trues fs + trues gs
+unfolding trues
+trues-append [] gs = omega arith
+trues-append (true ∷ fs) gs = omega (arith, trues-append fs gs)
+trues-append (false ∷ fs) gs = trues-append fs gs
 
 module _ (fs : List Bool) where
   abbrev gapped : ℕ → List Bool
