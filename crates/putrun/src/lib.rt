@@ -12,8 +12,9 @@ use put::put_tb;
 
 // The prefix in truncated unary: `ones` of at most `most`, each bin of its class.
 fn put_prefix(list: &mut [u8], at: usize, most: u32, ones: u32, above: bool, sent: u32) -> usize
-    requires { ⌜ (ones ≤ most) × (most ≤ 11) × (at + 32 < 2 ^ 63) ⌝ }
-    ensures { λ r. ⌜ Laid (now (list .entry)) at (unary (runClass above sent) 0 most ones) r (now (list .exit)) ⌝ }
+    requires { ⌜ (ones ≤ most) × (most ≤ 32) × (at + 32 < 2 ^ 63) ⌝ }
+    ensures laid { λ r. ⌜ Laid (now (list .entry)) at (unary (runClass above sent) 0 most ones) r (now (list .exit)) ⌝ }
+    ensures near { λ r. ⌜ r ≤ at + 32 ⌝ }
 {
     let mut to = at;
     let mut i: u32 = 0;

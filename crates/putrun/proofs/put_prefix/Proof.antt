@@ -69,8 +69,10 @@ returns : tie.Need-returns Inv-loop μ-loop
 returns c =
     let b = c .before .before .before .before .before .before .before .loop in
     let g = c .before .before .before .before .before .before .before .before .before .args in
-    let d = rw (c .before .before .before .run-class2 .ensures .0) at (c .before .before .put-bin2 .ensures) in
-    left-last d (rw (unary-stop (runClass (g .above) (g .sent)) (b .i) (g .most - b .i) (g .ones - b .i) (g .most - (b .i + 1)) (omega arith) (omega arith)) at (b .inv .3))
+    let d = rw (c .before .before .before .run-class2 .ensures .0) at (c .before .before .put-bin2 .ensures) in (
+      left-last d (rw (unary-stop (runClass (g .above) (g .sent)) (b .i) (g .most - b .i) (g .ones - b .i) (g .most - (b .i + 1)) (omega arith) (omega arith)) at (b .inv .3)),
+      omega (arith, c .before .before .put-bin2 .ensures .next),
+    )
 
 same-length-2 : tie.Need-same-length-2 Inv-loop μ-loop
 same-length-2 c = c .before .before .loop .inv .2
@@ -79,7 +81,7 @@ returns-2 : tie.Need-returns-2 Inv-loop μ-loop
 returns-2 c =
     let b = c .before .before .loop in
     let g = c .before .before .before .before .args in
-    left-end (rw (unary-full (runClass (g .above) (g .sent)) (b .i) (g .most - b .i) (g .ones - b .i) (omega arith)) at (b .inv .3))
+    (left-end (rw (unary-full (runClass (g .above) (g .sent)) (b .i) (g .most - b .i) (g .ones - b .i) (omega arith)) at (b .inv .3)), omega arith)
 
 pub put-prefix-spec : {M : Type 1} → statement M
 put-prefix-spec =

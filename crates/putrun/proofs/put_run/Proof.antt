@@ -1,9 +1,6 @@
 -- `putrun::put_run`: the prefix, then the suffix.
-use Prim.Native.Nat.{_+_}
 use native.Mathlib.Omega.{arith}
 use Rattle.base.specs.Laid.{laid-none, laid-then}
-use Rattle.h265.specs.Strings.{runClass}
-use Rattle.h265.specs.StringLaws.{length-unary}
 use Rattle.h265.specs.RunLaws.{runs-zero, runs-some, prefix-most}
 use Rattle.bins.specs.Logarithm.{flog-most}
 use borrow.Author.Needs.{needs}
@@ -36,15 +33,15 @@ put-prefix-requires c κs = (
 )
 
 put-suffix-requires : tie.Need-put-suffix-requires
-put-suffix-requires c κs = (omega arith, omega arith, omega (arith, c .before .before .before .put-prefix .ensures .next, c .before .before .before .before .before .before .flog .ensures, flog-most (c .before .before .before .before .before .before .before .before .before .args .longest) 11 (omega arith) (omega arith), length-unary (runClass (c .before .before .before .before .before .before .before .before .before .args .above) (c .before .before .before .before .before .before .before .before .before .args .sent)) 0 (c .before .before .before .before .before .before .flog .result + 1) (c .before .before .before .before .prefix-of .result)))
+put-suffix-requires c κs = (omega arith, omega arith, omega (arith, c .before .before .before .put-prefix .ensures .1))
 
 same-length : tie.Need-same-length
 same-length c = search needs
 
 returns-2 : tie.Need-returns-2
 returns-2 c = (
-  rw (runs-some (c .before .before .before .before .before .before .before .before .before .before .before .before .args .longest) (c .before .before .before .before .before .before .before .before .before .before .before .before .args .above) (c .before .before .before .before .before .before .before .before .before .before .before .before .args .sent) (c .before .before .before .before .before .before .before .before .before .before .before .before .args .more) (omega arith), ← c .before .before .before .before .before .before .before .before .before .flog .ensures, ← c .before .before .before .before .before .before .before .prefix-of .ensures) (laid-then (c .before .before .before .before .before .before .put-prefix .ensures) (c .before .before .put-suffix .ensures .0)),
-  omega (arith, c .before .before .put-suffix .ensures .1, c .before .before .before .before .before .before .put-prefix .ensures .next, c .before .before .before .before .before .before .before .before .before .flog .ensures, flog-most (c .before .before .before .before .before .before .before .before .before .before .before .before .args .longest) 11 (omega arith) (omega arith), length-unary (runClass (c .before .before .before .before .before .before .before .before .before .before .before .before .args .above) (c .before .before .before .before .before .before .before .before .before .before .before .before .args .sent)) 0 (c .before .before .before .before .before .before .before .before .before .flog .result + 1) (c .before .before .before .before .before .before .before .prefix-of .result)),
+  rw (runs-some (c .before .before .before .before .before .before .before .before .before .before .before .before .args .longest) (c .before .before .before .before .before .before .before .before .before .before .before .before .args .above) (c .before .before .before .before .before .before .before .before .before .before .before .before .args .sent) (c .before .before .before .before .before .before .before .before .before .before .before .before .args .more) (omega arith), ← c .before .before .before .before .before .before .before .before .before .flog .ensures, ← c .before .before .before .before .before .before .before .prefix-of .ensures) (laid-then (c .before .before .before .before .before .before .put-prefix .ensures .0) (c .before .before .put-suffix .ensures .0)),
+  omega (arith, c .before .before .put-suffix .ensures .1, c .before .before .before .before .before .before .put-prefix .ensures .1),
 )
 
 pub put-run-spec : {M : Type 1} → statement M
