@@ -10,7 +10,7 @@ use lib.Pow.{pow-mono, pow-pos}
 use lib.Signed.{shrZ, _≤ℤ_}
 use borrow.Author.Tests.{ltb-false}
 use Rattle.base.specs.Pick.{either}
-use Rattle.h265.specs.Escape.{fromZero, scaleOf, stepOf, escapeValue}
+use Rattle.h265.specs.Escape.{fromZero, scaleOf, stepOf, stepAt, escapeValue}
 
 -- ---- steps
 
@@ -40,6 +40,14 @@ step-high qp h =
 pub from-zero-le : (z : ℤ) (n : ℕ) → z ≤ℤ pos n → fromZero z ≤ n
 from-zero-le (pos m) n h = leb→le m n (h .le)
 from-zero-le (negsuc m) n h = omega arith
+
+pub step-at-low : (qp : ℤ) → 40 ≤ stepAt qp
+unfolding stepAt
+step-at-low qp = step-low (fromZero qp)
+
+pub step-at-high : (qp : ℤ) → qp ≤ℤ pos 75 → stepAt qp ≤ 294912
+unfolding stepAt
+step-at-high qp h = step-high (fromZero qp) (from-zero-le qp 75 h)
 
 -- ---- the value of a level
 

@@ -6,7 +6,7 @@ use native.Mathlib.Omega.{arith}
 use mir.Syntax.{w32}
 use mir.ValLaws.{toZ-ofZ}
 use Rattle.h265.specs.Escape.{fromZero, stepAt, stepOf}
-use Rattle.h265.specs.EscapeLaws.{step-low, step-high, from-zero-le}
+use Rattle.h265.specs.EscapeLaws.{from-zero-le, step-at-low, step-at-high}
 use borrow.Author.Needs.{needs}
 use Rattle.quant.proofs.step.Statement.{statement}
 use Rattle.quant.proofs.step.Tie as tie
@@ -32,8 +32,8 @@ unfolding stepAt stepOf
 returns c =
     let x = c .before .before .args .qp in
     let q : c .before .from-zero .result ≡ fromZero x = c .before .from-zero .ensures .0 ∙ rw (toZ-ofZ w32 x (c .before .before .fits .qp)) in
-    let low = step-low (fromZero x) in
-    let high = step-high (fromZero x) (from-zero-le x 75 (c .before .before .pre)) in
+    let low = step-at-low x in
+    let high = step-at-high x (c .before .before .pre) in
     let e : (c .scale .result * 2 ^ (c .before .from-zero .result / 6)) % 18446744073709551616 ≡ stepAt x = rw (c .scale .ensures, q) (mod-eq-of-lt (omega arith)) in
     (e, rw e low, rw e high)
 
