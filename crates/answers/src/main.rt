@@ -46,7 +46,10 @@ fn byte(record: &[u8], at: usize) -> u32
 fn word(record: &[u8], at: usize) -> u32
     requires { ⌜ at ≤ 64 ⌝ }
 {
-    byte(record, at) + 256 * byte(record, at + 1) + 65536 * byte(record, at + 2) + 16777216 * byte(record, at + 3)
+    byte(record, at)
+        + 256 * byte(record, at + 1)
+        + 65536 * byte(record, at + 2)
+        + 16777216 * byte(record, at + 3)
 }
 
 // Two words as one number.
@@ -228,7 +231,15 @@ fn print_three(a: u64, b: u64, c: u64) {
 // The line of a reader of one value.
 fn print_get(list: &[u8], record: &[u8], op: u32, at: usize) {
     let mut out = [0u64; 3];
-    get(list, at, op, word(record, 12), word(record, 16), word(record, 20), &mut out);
+    get(
+        list,
+        at,
+        op,
+        word(record, 12),
+        word(record, 16),
+        word(record, 20),
+        &mut out,
+    );
     print_three(out[0], out[1], out[2]);
 }
 
@@ -270,7 +281,10 @@ fn print_line(record: &[u8]) {
     let a = word(record, 4);
     let b = word(record, 8);
     if op < 16 {
-        io::print_decimal(STDOUT_FILENO, number(op, a, b, word(record, 12), word(record, 16)));
+        io::print_decimal(
+            STDOUT_FILENO,
+            number(op, a, b, word(record, 12), word(record, 16)),
+        );
     } else if op < 32 {
         print_put(record, op, a, b);
     } else {

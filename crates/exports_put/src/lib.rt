@@ -80,7 +80,14 @@ pub extern "C" fn velomitra_put_count(list: &mut [u8], at: usize, m: u32, v: u32
 
 // A run of `more` further cells of at most `longest`.
 #[no_mangle]
-pub extern "C" fn velomitra_put_run(list: &mut [u8], at: usize, longest: u32, above: bool, sent: u32, more: u32) -> usize
+pub extern "C" fn velomitra_put_run(
+    list: &mut [u8],
+    at: usize,
+    longest: u32,
+    above: bool,
+    sent: u32,
+    more: u32,
+) -> usize
     ensures { λ r. ⌜ Laid (now (list .entry)) at (near at (runOut longest above sent more)) r (now (list .exit)) ⌝ }
 {
     if FAR < at {
@@ -111,7 +118,12 @@ fn gathered(flags: &[bool]) -> [bool; 128]
 
 // The reuse runs of all flags under a palette limit.
 #[no_mangle]
-pub extern "C" fn velomitra_put_reuse(list: &mut [u8], at: usize, limit: u32, flags: &[bool]) -> usize
+pub extern "C" fn velomitra_put_reuse(
+    list: &mut [u8],
+    at: usize,
+    limit: u32,
+    flags: &[bool],
+) -> usize
     ensures { λ r. ⌜ Laid (now (list .entry)) at (near at (reuseOut limit (now (flags .entry)))) r (now (list .exit)) ⌝ }
 {
     if FAR < at {
