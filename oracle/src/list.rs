@@ -9,6 +9,9 @@ use crate::report::{Case, Random};
 use crate::scan::{Above, Cell, Pos};
 use std::{fs, io, path::Path};
 
+/// A byte of no class.
+const FOREIGN: u8 = 99;
+
 #[derive(Default)]
 struct List {
     records: Vec<u8>,
@@ -54,12 +57,10 @@ impl List {
         if bins.len() > 30 {
             return;
         }
-        let list = [&[99], &bins[..], &[99]].concat();
-        let value: Vec<u8> = code.value().iter().map(|&v| v as u8).collect();
-        match code {
-            Code::Reuse { .. } => self.get(code, &list, 1, [0, 0, 1 + bins.len()], &value),
-            _ => self.get(code, &list, 1, [0, code.value()[0] as usize, 1 + bins.len()], &[]),
-        }
+        let list = [&[FOREIGN], &bins[..], &[FOREIGN]].concat();
+        let value = code.value();
+        let flags: Vec<u8> = value[1..].iter().map(|&flag| flag as u8).collect();
+        self.get(code, &list, 1, [0, value[0] as usize, 1 + bins.len()], &flags);
     }
 
     /// The same bins cut, or with one of another class.
@@ -147,7 +148,7 @@ fn cells(list: &mut List, random: &mut Random) {
 fn levels(list: &mut List, random: &mut Random) {
     for qp in [-128, -1, 0, 1, 2, 3, 4, 5, 6, 22, 33, 34, 51, 75] {
         let word = qp as u32;
-        list.number(4, &[word], Step { qp });
+        list.number(4, &[0, word], Step { qp });
         for lossless in [false, true] {
             list.number(5, &[lossless.into(), word], Tolerance { lossless, qp });
             for depth in quant::DEPTHS {
@@ -169,24 +170,30 @@ fn levels(list: &mut List, random: &mut Random) {
 }
 
 fn coded(list: &mut List, random: &mut Random) {
-    for class in 0..=11 {
+    for class in 0..=10 {
         let code = Code::Bin { class, bin: class % 2 == 1 };
         list.get_good(&code);
-        list.get_bad(&code, Harm::Class(23), random);
+        list.get_bad(&code, Harm::Class(FOREIGN), random);
     }
     for kind in 0..codes::KINDS {
         for _ in 0..16 {
             let code = codes::drawn(kind, random);
-            if !matches!(code, Code::Held { .. }) {
+            if code.is_written() {
                 list.put(&code);
             }
             list.get_good(&code);
             list.get_bad(&code, Harm::Cut, random);
-            list.get_bad(&code, Harm::Class(23), random);
+            list.get_bad(&code, Harm::Class(FOREIGN), random);
         }
     }
+    for n in 0..12 {
+        let code = Code::Reuse { limit: 64, flags: (0..n).map(|_| random.below(3) == 0).collect() };
+        list.put(&code);
+        list.get_good(&code);
+        list.get_bad(&code, Harm::Cut, random);
+    }
     for order in codes::orders() {
-        list.put(&Code::Egk { order, value: codes::egk_top(order) });
+        list.put(&Code::Egk { order, value: 65535 });
         list.get(&Code::Egk { order, value: 0 }, &[1; 17], 0, [12, 0, 0], &[]);
     }
     for value in [32768, 40000] {

@@ -137,14 +137,14 @@ pub fn run_at(list: &[u8], at: usize, longest: u32, above: bool, sent: u32) -> R
     read(|out, room| unsafe { exported::velomitra_run_at(list.as_ptr(), list.len(), at, longest, above, sent, out, room) })
 }
 
-/// The flags of `count` predictor entries.
-pub fn reuse_at(list: &[u8], at: usize, limit: u32, count: usize) -> Read<Vec<bool>> {
+/// How many of `count` predictor entries are reused, and their flags.
+pub fn reuse_at(list: &[u8], at: usize, limit: u32, count: usize) -> Read<(u64, Vec<bool>)> {
     let mut flags = vec![false; count];
     let got = read(|out, room| unsafe {
         exported::velomitra_reuse_at(list.as_ptr(), list.len(), at, limit, flags.as_mut_ptr(), count, out, room)
     });
     match got {
-        Read::Value(_, place) => Read::Value(flags, place),
+        Read::Value(number, place) => Read::Value((number, flags), place),
         Read::Refused(number, place) => Read::Refused(number, place),
     }
 }

@@ -16,6 +16,8 @@ use exports_get::velomitra_bits_at;
 use exports_get::velomitra_count_at;
 use exports_get::velomitra_egk_at;
 use exports_get::velomitra_held_egk_at;
+use exports_get::velomitra_reuse_at;
+use exports_get::velomitra_run_at;
 use exports_get::velomitra_tb_at;
 use exports_put::velomitra_put_bits;
 use exports_put::velomitra_put_count;
@@ -121,17 +123,20 @@ fn letter(b: u8) -> u8 {
 // The first n bins of a list as letters.
 fn print_bins(list: &[u8], n: usize) {
     let mut i = 0;
-    while i < n && i < list.len() {
+    while i < list.len() {
+        if n <= i {
+            return;
+        }
         let text = [letter(list[i])];
         io::write_all(STDOUT_FILENO, &text);
         i += 1;
     }
 }
 
-// The first n flags of a list as letters.
-fn print_flags(flags: &[bool], n: usize) {
+// Flags as letters.
+fn print_flags(flags: &[bool]) {
     let mut i = 0;
-    while i < n && i < flags.len() {
+    while i < flags.len() {
         let text = [letter(flags[i] as u8)];
         io::write_all(STDOUT_FILENO, &text);
         i += 1;
@@ -151,8 +156,17 @@ fn flags_of(record: &[u8]) -> [bool; 128]
     flags
 }
 
+// The reuse runs of a record's flags.
+fn put_flags(list: &mut [u8], record: &[u8], limit: u32, count: u32) -> usize {
+    let flags = flags_of(record);
+    if 128 < count {
+        return 0;
+    }
+    velomitra_put_reuse(list, 0, limit, &flags[..count as usize])
+}
+
 // A value laid in its code from place 0 on; the place after it.
-fn put(list: &mut [u8], op: u32, a: u32, b: u32, c: u32, d: u32) -> usize {
+fn put(list: &mut [u8], record: &[u8], op: u32, a: u32, b: u32) -> usize {
     if op == 17 {
         return velomitra_put_bits(list, 0, a, b);
     }
@@ -165,26 +179,16 @@ fn put(list: &mut [u8], op: u32, a: u32, b: u32, c: u32, d: u32) -> usize {
     if op == 21 {
         return velomitra_put_count(list, 0, a, b);
     }
-    velomitra_put_run(list, 0, a, b == 1, c, d)
-}
-
-// The reuse runs of a record's flags.
-fn put_flags(list: &mut [u8], record: &[u8], limit: u32, count: u32) -> usize {
-    let flags = flags_of(record);
-    if 128 < count {
-        return 0;
+    if op == 22 {
+        return velomitra_put_run(list, 0, a, b == 1, word(record, 12), word(record, 16));
     }
-    velomitra_put_reuse(list, 0, limit, &flags[..count as usize])
+    put_flags(list, record, a, b)
 }
 
 // The line of a writer.
 fn print_put(record: &[u8], op: u32, a: u32, b: u32) {
     let mut list = [0u8; 256];
-    let next = if op == 23 {
-        put_flags(&mut list, record, a, b)
-    } else {
-        put(&mut list, op, a, b, word(record, 12), word(record, 16))
-    };
+    let next = put(&mut list, record, op, a, b);
     io::print_decimal(STDOUT_FILENO, next as u64);
     io::write_all(STDOUT_FILENO, b":");
     print_bins(&list, next);
@@ -213,7 +217,7 @@ fn get(list: &[u8], at: usize, op: u32, a: u32, b: u32, c: u32, out: &mut [u64])
         return;
     }
     if op == 38 {
-        velomitra_count_at(list, at, a, out);
+        velomitra_run_at(list, at, a, b == 1, c, out);
         return;
     }
     velomitra_bin_at(list, at, (a % 256) as u8, out);
@@ -243,20 +247,24 @@ fn print_get(list: &[u8], record: &[u8], op: u32, at: usize) {
     print_three(out[0], out[1], out[2]);
 }
 
-// The line of the reader of reuse runs.
-fn print_get_flags(list: &[u8], at: usize, limit: u32, count: u32) {
-    let mut flags = [false; 128];
+// The line of the reader of reuse runs, of as many entries as there are flags.
+fn print_get_flags(list: &[u8], at: usize, limit: u32, flags: &mut [bool]) {
     let mut out = [0u64; 3];
-    if 128 < count {
-        return;
-    }
-    let n = count as usize;
-    velomitra_count_at(list, at, 3, &mut out);
+    velomitra_reuse_at(list, at, limit, flags, &mut out);
     print_three(out[0], out[1], out[2]);
     io::write_all(STDOUT_FILENO, b":");
     if out[0] == 0 {
-        print_flags(&flags, n);
+        print_flags(flags);
     }
+}
+
+// The same, of `count` entries.
+fn print_counted(list: &[u8], at: usize, limit: u32, count: u32) {
+    let mut flags = [false; 128];
+    if 128 < count {
+        return;
+    }
+    print_get_flags(list, at, limit, &mut flags[..count as usize]);
 }
 
 // The line of a reader.
@@ -269,7 +277,7 @@ fn print_read(record: &[u8], op: u32, len: u32, at: u32) {
     }
     let list = &record[32..32 + len as usize];
     if op == 39 {
-        print_get_flags(list, at as usize, word(record, 12), word(record, 16));
+        print_counted(list, at as usize, word(record, 12), word(record, 16));
         return;
     }
     print_get(list, record, op, at as usize);

@@ -1,4 +1,5 @@
 -- `answers::flags_of`: the array keeps its length.
+-- `answers::flags_of`: the array keeps its length.
 use mathlib.Core.Path.{_≡_, refl, sym}
 use Prim.Native.Nat.{_-_}
 use lib.ListN.{length, length-set}

@@ -1,4 +1,5 @@
 -- `answers::print_bins` is safe and ends.
+-- `answers::print_bins` is safe and ends.
 use Prim.Native.Nat.{_-_}
 use lib.ListN.{length}
 use borrow.Author.Needs.{needs}
@@ -17,6 +18,9 @@ abbrev μ-loop : tie.MeasureT-loop
 
 loop-holds : tie.Need-loop-holds Inv-loop μ-loop
 loop-holds c = search needs
+
+returns : tie.Need-returns Inv-loop μ-loop
+returns c = search needs
 
 shared-slice-read-letter : tie.Need-shared-slice-read-letter Inv-loop μ-loop
 shared-slice-read-letter c = search needs
@@ -39,9 +43,6 @@ loop-less c = search needs
 loop-again : tie.Need-loop-again Inv-loop μ-loop
 loop-again c = search needs
 
-returns : tie.Need-returns Inv-loop μ-loop
-returns c = search needs
-
 returns-2 : tie.Need-returns-2 Inv-loop μ-loop
 returns-2 c = search needs
 
@@ -52,6 +53,7 @@ print-bins-spec =
     Inv-loop
     μ-loop
     loop-holds
+    returns
     shared-slice-read-letter
     letter-requires
     slice-aggregate-write-all
@@ -59,5 +61,4 @@ print-bins-spec =
     add-i
     loop-less
     loop-again
-    returns
     returns-2)

@@ -10,10 +10,10 @@ use Rattle.answers.proofs.letter.Reads as letter-reads
 use Rattle.io.proofs.write_all.Reads as write-all-reads
 
 abbrev Inv-loop : tie.InvT-loop
-Inv-loop flags n i₀ i = Unit {0}
+Inv-loop flags i₀ i = Unit {0}
 
 abbrev μ-loop : tie.MeasureT-loop
-μ-loop flags n i₀ i = length flags - i
+μ-loop flags i₀ i = length flags - i
 
 loop-holds : tie.Need-loop-holds Inv-loop μ-loop
 loop-holds c = search needs
@@ -45,9 +45,6 @@ loop-again c = search needs
 returns : tie.Need-returns Inv-loop μ-loop
 returns c = search needs
 
-returns-2 : tie.Need-returns-2 Inv-loop μ-loop
-returns-2 c = search needs
-
 pub print-flags-spec : {M : Type 1} → statement M
 print-flags-spec =
     tie.close
@@ -63,5 +60,4 @@ print-flags-spec =
     add-i
     loop-less
     loop-again
-    returns
-    returns-2)
+    returns)
