@@ -26,7 +26,7 @@ fn main() {
         println!("cargo:rerun-if-changed={}", file.display());
     }
     let modules = format!(
-        "mod cabac {{\n    #[path = {engine:?}]\n    pub(crate) mod engine;\n    #[path = {contexts:?}]\n    pub(crate) mod contexts;\n}}\n#[path = {:?}]\nmod palette;\n",
+        "#[allow(dead_code)]\nmod cabac {{\n    #[path = {engine:?}]\n    pub(crate) mod engine;\n    #[path = {contexts:?}]\n    pub(crate) mod contexts;\n}}\n#[allow(dead_code)]\n#[path = {:?}]\nmod palette;\n",
         out.join("palette.rs"),
     );
     fs::write(out.join("source.rs"), modules).unwrap();

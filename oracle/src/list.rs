@@ -3,7 +3,8 @@
 //! A record has 64 bytes: eight little-endian words, the operation and what it is told, then up to 32 bins.
 //! A line has the answer: a number; for a writer `NEXT:BINS`, bins as letters from `a` on; for a reader refusal or 0, value and place, and after `:` the flags as letters.
 
-use crate::codes::{self, Code, Damaged, Harm};
+use crate::code::Code;
+use crate::codes::{self, Damaged, Harm};
 use crate::quant::{self, Dequant, Distance, Product, Quantize, Step, Tolerance};
 use crate::report::{Case, Random};
 use crate::scan::{Above, Cell, Pos};

@@ -1,10 +1,9 @@
 //! Holds the port against source 000, case by case. `--list` writes the fixed list of answers instead.
 
-#![allow(dead_code)]
-
 include!(concat!(env!("OUT_DIR"), "/source.rs"));
 
 mod bins;
+mod code;
 mod codes;
 mod list;
 mod port;

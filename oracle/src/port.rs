@@ -26,7 +26,16 @@ mod exported {
         pub fn velomitra_held_egk_at(list: *const u8, len: usize, at: usize, order: u32, top: u32, out: *mut u64, room: usize);
         pub fn velomitra_count_at(list: *const u8, len: usize, at: usize, m: u32, out: *mut u64, room: usize);
         pub fn velomitra_run_at(list: *const u8, len: usize, at: usize, longest: u32, above: bool, sent: u32, out: *mut u64, room: usize);
-        pub fn velomitra_reuse_at(list: *const u8, len: usize, at: usize, limit: u32, flags: *mut bool, count: usize, out: *mut u64, room: usize);
+        pub fn velomitra_reuse_at(
+            list: *const u8,
+            len: usize,
+            at: usize,
+            limit: u32,
+            flags: *mut bool,
+            count: usize,
+            out: *mut u64,
+            room: usize,
+        );
     }
 }
 

@@ -7,9 +7,8 @@ use crate::report::{below, Case, Report};
 pub const QPS: std::ops::RangeInclusive<i32> = -128..=75;
 pub const DEPTHS: [u8; 3] = [8, 10, 12];
 /// Levels at which something may change, the limits of an i32 among them.
-pub const LEVELS: [i32; 20] = [
-    i32::MIN, i32::MIN + 1, -65536, -32768, -32767, -4096, -2, -1, 0, 1, 2, 3, 255, 256, 4095, 4096, 32766, 32767, 32768, i32::MAX,
-];
+pub const LEVELS: [i32; 20] =
+    [i32::MIN, i32::MIN + 1, -65536, -32768, -32767, -4096, -2, -1, 0, 1, 2, 3, 255, 256, 4095, 4096, 32766, 32767, 32768, i32::MAX];
 
 pub fn most(depth: u8) -> u64 {
     (1 << depth) - 1
@@ -178,9 +177,7 @@ pub fn compare(report: &mut Report) {
     );
     report.compare(
         "quantize",
-        depths().flat_map(|(lossless, qp, depth)| {
-            (0..=most(depth) as u16).map(move |value| Quantize { lossless, qp, depth, value })
-        }),
+        depths().flat_map(|(lossless, qp, depth)| (0..=most(depth) as u16).map(move |value| Quantize { lossless, qp, depth, value })),
     );
 
     let mut random = report.random("distance");

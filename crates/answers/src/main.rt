@@ -312,6 +312,7 @@ fn print_lines(records: &[u8]) {
     }
 }
 
+// Lines for the records of standard input, at most 1,024 of them.
 fn main() {
     let mut input = io::large_buffer();
     let n = io::read_full(0, &mut input);
