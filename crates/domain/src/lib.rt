@@ -2,7 +2,10 @@
 ghost use mathlib.Core.Path.{_≡_};
 ghost use Prim.Native.Nat.{_*_, _≤_, min};
 ghost use Rattle.model.specs.Domain.{formatIn, depthIn, qpIn, configIn, sizeIn, evenIn, sideIn, sourceIn, planesIn, most, mostChroma, colorIn, predictorIn};
-use model::{Color, PaletteConfig, PalettePredictor, SourceBlock};
+use model::Color;
+use model::PaletteConfig;
+use model::PalettePredictor;
+use model::SourceBlock;
 
 // Whether component count and format agree.
 fn format_in(components: usize, format: u8) -> bool
