@@ -11,3 +11,4 @@ pub mod Turns
 pub mod Reuse
 pub mod ReuseLaws
 pub mod Places
+pub mod Predictor
