@@ -27,10 +27,6 @@ use Rattle.predictor.specs.Update.{padded, predictorOf, emptyPredictor, 
 
 -- ---- entries and none after them
 
-pub padded-none : (n : ℕ) → replicate n noColor ≡ padded n []
-unfolding padded
-padded-none n = let e : n - 0 ≡ n = omega arith in rw e
-
 pub padded-length : (n : ℕ) (xs : List Color) → length xs ≤ n → length (padded n xs) ≡ n
 unfolding padded
 padded-length n xs h = rw (length-append, length-replicate) (omega arith)
@@ -44,6 +40,11 @@ padded-push n xs a h =
 pub padded-take : (n : ℕ) (xs : List Color) → take (length xs) (padded n xs) ≡ xs
 unfolding padded
 padded-take n xs = take-append-seam xs _
+
+-- no entry yet
+pub empty-start : (p : PalettePredictor) → p ≡ emptyPredictor → (length (p .entries) ≡ 128) × (p .entries ≡ padded 128 [])
+unfolding emptyPredictor
+empty-start p e = rw e (padded-length 128 [] (omega arith), refl)
 
 -- one more entry of a list
 pub padded-next : (n : ℕ) (xs : List Color) (i : ℕ) (d : Color) → i < length xs → length xs ≤ n → set (padded n (take i xs)) i (getD xs i d) ≡ padded n (take (i + 1) xs)

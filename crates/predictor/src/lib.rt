@@ -42,7 +42,8 @@ fn palette_first(palette: [Color; 64], n: usize) -> [Color; 128]
     requires { ⌜ n ≤ 64 ⌝ }
     ensures { λ r. ⌜ r ≡ padded 128 (take n palette) ⌝ }
 {
-    let mut out = [Color { y: 0, cb: 0, cr: 0 }; 128];
+    let empty = reset();
+    let mut out = empty.entries;
     let mut i: usize = 0;
     while i < n {
         let c = palette[i];
