@@ -47,9 +47,13 @@ loop-less c = omega arith
 loop-again : tie.Need-loop-again Inv-loop μ-loop
 loop-again c =
     let l = c .before .before .loop in
-    let xs = c .before .before .before .before .before .args .t1 in
-    (omega arith, (simp length-set (l .inv .1 .0),
-    ap (λ (o : List Color). set o (l .i) (getD xs (l .i) noColor)) (l .inv .1 .1) ∙ padded-next 128 xs (l .i) noColor (omega arith) (omega arith)))
+    let xs = c .before .before .before .before .before .args .t1 in (
+      omega arith,
+      (
+        simp length-set (l .inv .1 .0),
+        ap (λ (o : List Color). set o (l .i) (getD xs (l .i) noColor)) (l .inv .1 .1) ∙ padded-next 128 xs (l .i) noColor (omega arith) (omega arith),
+      ),
+    )
 
 returns : tie.Need-returns Inv-loop μ-loop
 returns c =
