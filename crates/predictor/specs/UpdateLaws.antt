@@ -3,7 +3,7 @@ use mathlib.Core.Path.{_≡_, refl, ap, sym, _∙_}
 use mathlib.Core.Bool.{Bool, true, false, _&&_}
 use mathlib.Core.List.{List, [], _∷_, _++_, append-assoc, append-nil}
 use mathlib.Core.Logic.{⊎-elim}
-use Prim.Native.Nat.{ℕ, zero, suc, _+_, _-_, _≤_, _<_, min}
+use Prim.Native.Nat.{ℕ, suc, _+_, _-_, _≤_, _<_, min}
 use native.Mathlib.Nat.{min-eq-left, min-eq-right, min-le-left, min-le-right}
 use native.Mathlib.Numerals.{add-one}
 use native.Mathlib.Omega.{arith}
@@ -14,7 +14,7 @@ use lib.Seq.{take-all, take-take, take-suc, take-at, take-append-le, take-append
 use Rattle.base.specs.Alls.{all-by, all-at}
 use Rattle.base.specs.Counted.{push}
 use Rattle.base.specs.Codes.{All}
-use Rattle.base.specs.Pick.{pick, either, lt-or-le, true-false}
+use Rattle.base.specs.Pick.{pick, either, lt-or-le}
 use Rattle.base.specs.Tests.{every, both, ands-every, refusal, upTo, up-to-at, at-up-to}
 use Rattle.h265.specs.Predictor.{unreused, updated, updated-length, updated-all, unreused-at, unreused-none}
 use Rattle.model.specs.declared.Color.{Color}

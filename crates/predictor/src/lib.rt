@@ -1,6 +1,5 @@
 // The palette predictor: empty at first, and after each block its palette and what it did not reuse.
 ghost use mathlib.Core.Path.{_≡_};
-ghost use mathlib.Core.Bool.{Bool, true, false};
 ghost use Prim.Native.Nat.{_≤_, min};
 ghost use lib.ListN.{take};
 ghost use Rattle.predictor.specs.Update.{padded, emptyPredictor, renewedOf, updateOf};

@@ -1,6 +1,6 @@
 // When a block holds together, clause by clause.
 ghost use mathlib.Core.Path.{_≡_};
-ghost use Prim.Native.Nat.{ℕ, _+_, _-_, _*_, _≤_};
+ghost use Prim.Native.Nat.{_+_, _-_, _*_, _≤_};
 ghost use lib.Dec.{eqb, leb};
 ghost use lib.ListN.{getD, take};
 ghost use Rattle.base.specs.Tests.{upTo};
