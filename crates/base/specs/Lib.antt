@@ -6,3 +6,4 @@ pub mod Laid
 pub mod Cells
 pub mod Counted
 pub mod Powers
+pub mod Lists
