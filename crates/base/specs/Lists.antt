@@ -1,9 +1,10 @@
 -- Plain laws of lists: padding to a length, and lists of which the first elements agree.
 use mathlib.Core.Path.{_≡_, refl, ap, sym, _∙_}
-use mathlib.Core.List.{List, [], _∷_, _++_, map}
+use mathlib.Core.List.{List, [], _∷_, _++_, map, append-assoc}
 use Prim.Native.Nat.{ℕ, zero, suc, _+_, _-_, _≤_, _<_}
 use native.Mathlib.Omega.{arith}
-use lib.ListN.{length, getD, take, drop, replicate, take-append-drop}
+use lib.ListN.{length, getD, set, take, drop, replicate, take-append-drop, length-append, length-replicate, length-set, List·getD-append}
+use lib.Seq.{take-append-seam, set-append-left, set-append-seam}
 
 -- a list of m elements that begins with l and goes on with x
 abbrev pub padded : {A : Type 0} → ℕ → A → List A → List A
@@ -22,3 +23,23 @@ padded-is x l w r m a b e = sym (take-append-drop r l) ∙ rw (a, b, drop-replic
 pub map-ext : {A B : Type 0} (f g : A → B) (d : A) (l : List A) → ((b : ℕ) → b < length l → f (getD l b d) ≡ g (getD l b d)) → map f l ≡ map g l
 map-ext f g d [] h = refl
 map-ext f g d (x ∷ xs) h = (λ i. h 0 (omega arith) i ∷ map-ext f g d xs (λ b l. h (suc b) (omega arith)) i)
+
+-- ---- a list in an array of m elements
+
+pub padded-length : {A : Type 0} (m : ℕ) (x : A) (w : List A) → length w ≤ m → length (padded m x w) ≡ m
+padded-length m x w h = simp (length-append, length-replicate) (omega arith)
+
+pub padded-take : {A : Type 0} (m : ℕ) (x : A) (w : List A) → take (length w) (padded m x w) ≡ w
+padded-take m x w = take-append-seam w (replicate (m - length w) x)
+
+pub padded-read : {A : Type 0} (m : ℕ) (x d : A) (w : List A) (p : ℕ) → p < length w → getD (padded m x w) p d ≡ getD w p d
+padded-read m x d w p h = List·getD-append w (replicate (m - length w) x) d p h
+
+pub padded-set : {A : Type 0} (m : ℕ) (x v : A) (w : List A) (p : ℕ) → p < length w → set (padded m x w) p v ≡ padded m x (set w p v)
+padded-set m x v w p h = set-append-left w (replicate (m - length w) x) p v h ∙ rw length-set
+
+-- one more behind it
+pub padded-push : {A : Type 0} (m : ℕ) (x v : A) (w : List A) → length w < m → set (padded m x w) (length w) v ≡ padded m x (w ++ (v ∷ []))
+padded-push m x v w h =
+    let e : m - length w ≡ suc (m - (length w + 1)) = omega arith in
+    rw (e, set-append-seam w x (replicate (m - (length w + 1)) x) v, length-append w (v ∷ [])) (sym (append-assoc w (v ∷ []) (replicate (m - (length w + 1)) x)))
