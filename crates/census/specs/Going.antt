@@ -58,7 +58,7 @@ going-start t g xs ms cs h a b = record { holds = h; table = refl; count = refl;
 
 module _ {t₀ t : Table} {g : ℕ} {xs : List ℕ} {i d : ℕ} {ms cs : List ℕ} (v : Going t₀ t g xs i d ms cs) where
   going-take : take d ms ≡ met xs i
-  going-take = rw (v .count, v .colours) (padded-take 128 0 (met xs i))
+  going-take = rw (v .colours) (padded-take 128 0 (met xs i) d (sym (v .count)))
 
   -- what `place` asks
   pub going-place : ((d ≤ 128) × (length ms ≡ 128) × Distinct (take d ms)) × Holds t g (take d ms)
