@@ -5,5 +5,7 @@ pub mod Codes
 pub mod Laid
 pub mod Cells
 pub mod Counted
+pub mod Prepend
 pub mod Powers
 pub mod Lists
+pub mod Tests

@@ -10,8 +10,10 @@ pub mod RunLaws
 pub mod Turns
 pub mod Reuse
 pub mod ReuseLaws
+pub mod ReuseTurns
 pub mod Places
 pub mod Scan
 pub mod ScanLaws
 pub mod Escape
 pub mod EscapeLaws
+pub mod Worked

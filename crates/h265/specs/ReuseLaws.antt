@@ -6,6 +6,8 @@ use Prim.Native.Nat.{ℕ, zero, suc, _+_, _-_, _^_, _≤_, _<_}
 use native.Mathlib.Omega.{arith}
 use lib.Dec.{leb, eqb}
 use lib.ListN.{length, drop, replicate, length-replicate, length-append, length-drop}
+use lib.Seq.{drop-drop}
+use native.Mathlib.Numerals.{add-one}
 use borrow.Author.Tests.{eqb-true, eqb-false, eq-eqb, ne-eqb, leb-true, leb-false, le-leb, lt-leb}
 use Rattle.base.specs.Pick.{pick, either}
 use Rattle.base.specs.Answer.{Answer, Value, Refused, onward, went, refused-not, same-value, same-place}
@@ -36,7 +38,7 @@ code-not-one g e = go (eqb g 0) refl e
     go true t e = omega arith
     go false t e = eqb-false g 0 t (omega arith)
 
-code-most : (g : ℕ) → codeOf g ≤ g + 1
+pub code-most : (g : ℕ) → codeOf g ≤ g + 1
 unfolding codeOf
 code-most g = go (eqb g 0)
   where
@@ -65,11 +67,24 @@ code-gap r h = go (eqb r 0) refl
 
 -- ---- flags
 
-lead-le : (fs : List Bool) → lead fs ≤ length fs
+pub lead-le : (fs : List Bool) → lead fs ≤ length fs
 unfolding lead
 lead-le [] = omega arith
 lead-le (true ∷ fs) = omega arith
 lead-le (false ∷ fs) = omega (arith, lead-le fs)
+
+-- one flag more, as a search for the next reused entry sees it
+pub lead-here : (f : Bool) (fs : List Bool) → f ≡ true → lead (f ∷ fs) ≡ 0
+unfolding lead
+lead-here f fs e = rw e
+
+pub lead-next : (f : Bool) (fs : List Bool) → f ≡ false → lead (f ∷ fs) ≡ lead fs + 1
+unfolding lead
+lead-next f fs e = rw (e, add-one (lead fs))
+
+pub lead-end : lead [] ≡ 0
+unfolding lead
+lead-end = refl
 
 none-reused : (fs : List Bool) → lead fs ≡ length fs → fs ≡ replicate (length fs) false
 unfolding lead
@@ -100,10 +115,16 @@ unfolding lead
 lead-none zero = refl
 lead-none (suc k) = ap suc (lead-none k)
 
-trues-none : (k : ℕ) → trues (replicate k false) ≡ 0
+pub trues-none : (k : ℕ) → trues (replicate k false) ≡ 0
 unfolding trues
 trues-none zero = refl
 trues-none (suc k) = trues-none k
+
+pub trues-append : (fs gs : List Bool) → trues (fs ++ gs) ≡ trues fs + trues gs
+unfolding trues
+trues-append [] gs = omega arith
+trues-append (true ∷ fs) gs = omega (arith, trues-append fs gs)
+trues-append (false ∷ fs) gs = trues-append fs gs
 
 module _ (fs : List Bool) where
   abbrev gapped : ℕ → List Bool
@@ -128,27 +149,40 @@ module _ (fs : List Bool) where
 
 -- ---- one step of the writer
 
-bins-zero : (fs : List Bool) → reuseBins zero fs ≡ []
+pub bins-zero : (fs : List Bool) → reuseBins zero fs ≡ []
 unfolding reuseBins
 bins-zero fs = refl
 
-bins-none : (room : ℕ) (fs : List Bool) → length fs ≡ 0 → reuseBins room fs ≡ []
+pub bins-none : (room : ℕ) (fs : List Bool) → length fs ≡ 0 → reuseBins room fs ≡ []
 unfolding reuseBins
 bins-none zero fs h = refl
 bins-none (suc room) fs h = rw (eq-eqb (length fs) 0 h)
 
-bins-stop : (room : ℕ) (fs : List Bool) → 0 < length fs → lead fs ≡ length fs → reuseBins (suc room) fs ≡ egk 0 1
+pub bins-stop : (room : ℕ) (fs : List Bool) → 0 < length fs → lead fs ≡ length fs → reuseBins (suc room) fs ≡ egk 0 1
 unfolding reuseBins
 bins-stop room fs h e =
     let z : length fs ≡ 0 → ⊥ = λ w. omega arith in
     rw (ne-eqb (length fs) 0 z, eq-eqb (lead fs) (length fs) e)
 
-bins-go : (room : ℕ) (fs : List Bool) → lead fs < length fs → reuseBins (suc room) fs ≡ egk 0 (codeOf (lead fs)) ++ reuseBins room (drop (suc (lead fs)) fs)
+pub bins-go : (room : ℕ) (fs : List Bool) → lead fs < length fs → reuseBins (suc room) fs ≡ egk 0 (codeOf (lead fs)) ++ reuseBins room (drop (suc (lead fs)) fs)
 unfolding reuseBins
 bins-go room fs h =
     let z : length fs ≡ 0 → ⊥ = λ w. omega arith in
     let y : lead fs ≡ length fs → ⊥ = λ w. omega arith in
     rw (ne-eqb (length fs) 0 z, ne-eqb (lead fs) (length fs) y)
+
+-- the same over what a writer holds: the entries from i on
+pub bins-turn : (room : ℕ) (fs : List Bool) (i j : ℕ) → 0 < room → lead (drop i fs) < length (drop i fs) → j ≡ i + lead (drop i fs) → reuseBins room (drop i fs) ≡ egk 0 (codeOf (j - i)) ++ reuseBins (room - 1) (drop (j + 1) fs)
+bins-turn zero fs i j r h e = absurd (omega arith)
+bins-turn (suc room) fs i j r h e =
+    let a : j - i ≡ lead (drop i fs) = omega arith in
+    let b : suc room - 1 ≡ room = omega arith in
+    let d : j + 1 ≡ i + suc (lead (drop i fs)) = omega arith in
+    rw (a, b, d, ← drop-drop (suc (lead (drop i fs))) i fs) (bins-go room (drop i fs) h)
+
+pub bins-last : (room : ℕ) (fs : List Bool) → 0 < room → 0 < length fs → lead fs ≡ length fs → reuseBins room fs ≡ egk 0 1
+bins-last zero fs r h e = absurd (omega arith)
+bins-last (suc room) fs r h e = bins-stop room fs h e
 
 -- ---- the laws; a predictor has at most 128 entries, and 65,535 would do
 

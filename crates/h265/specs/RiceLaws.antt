@@ -13,6 +13,7 @@ use Rattle.base.specs.Answer.{Answer, Value, Refused, onward, onward-value, ref
 use Rattle.base.specs.Stands.{Stands, join, split, Code}
 use Rattle.h265.specs.Strings.{bits, egk, unary, bypass, rice, riceOf, countBins}
 use Rattle.h265.specs.Parse.{bitsAt, onesFrom, unaryAt, riceAt, countAt}
+use Rattle.h265.specs.StringLaws.{bits-mod}
 use Rattle.h265.specs.BitLaws.{bits-code}
 use Rattle.h265.specs.UnaryLaws.{unary-code}
 use Rattle.h265.specs.EgkLaws.{Ones, ones-there, ones-back, ReadOnes}
@@ -87,3 +88,27 @@ rice-code r = record { there = λ l p q v. rice-there r l p q v; back = λ l p q
 pub count-code : (m : ℕ) → Code (countAt m) (countBins m) (λ v. InRice (riceOf m) v)
 unfolding countAt countBins
 count-code m = rice-code (riceOf m)
+
+-- ---- the string over what a writer holds: p is 2^R, and the low bits need no mask
+
+module _ (m v p : ℕ) (e : p ≡ 2 ^ riceOf m) where
+  pub count-low : v < 4 * p → countBins m v ≡ unary bypass 0 4 (v / p) ++ bits (riceOf m) v
+  unfolding countBins
+  count-low h = rw (e, rice-low (riceOf m) v (rw e at h), bits-mod (riceOf m) v)
+
+  pub count-high : 4 * p ≤ v → countBins m v ≡ unary bypass 0 4 4 ++ egk (riceOf m + 1) (v - 4 * p)
+  unfolding countBins
+  count-high h = rw (e, rice-high (riceOf m) v (rw e at h))
+
+-- the prefix as one number's bits
+pub four-few : (v : ℕ) → v < 4 → unary bypass 0 4 v ≡ bits (v + 1) (2 ^ (v + 1) - 2)
+unfolding unary bits
+four-few zero h = refl
+four-few (suc zero) h = refl
+four-few (suc (suc zero)) h = refl
+four-few (suc (suc (suc zero))) h = refl
+four-few (suc (suc (suc (suc v)))) h = absurd (omega arith)
+
+pub four-all : unary bypass 0 4 4 ≡ bits 4 15
+unfolding unary bits
+four-all = refl

@@ -26,7 +26,7 @@ suffixes-one longest k h = go (ltb longest (2 * 2 ^ k))
     go true = omega arith
     go false = omega (arith, pow-pos k)
 
-suffix-in : (longest k w : ℕ) → 2 ^ k ≤ w → w < 2 * 2 ^ k → w ≤ longest → w - 2 ^ k < suffixes longest k
+pub suffix-in : (longest k w : ℕ) → 2 ^ k ≤ w → w < 2 * 2 ^ k → w ≤ longest → w - 2 ^ k < suffixes longest k
 unfolding suffixes
 suffix-in longest k w a b c = go (ltb longest (2 * 2 ^ k))
   where
@@ -43,15 +43,23 @@ suffix-out longest k x a b = go (ltb longest (2 * 2 ^ k)) refl b
     go false t h = let c : 2 * 2 ^ k ≤ longest = ltb-false longest (2 * 2 ^ k) t in omega arith
 
 -- the prefix and the suffix of w where 2^k ≤ w < 2^(k+1)
-prefix-is : (k w : ℕ) → 2 ^ k ≤ w → w < 2 * 2 ^ k → prefixOf w ≡ suc k
+pub prefix-is : (k w : ℕ) → 2 ^ k ≤ w → w < 2 * 2 ^ k → prefixOf w ≡ suc k
 unfolding prefixOf
 prefix-is k zero a b = absurd (omega (arith, pow-pos k))
 prefix-is k (suc w) a b = rw (flog-is k (suc w) a (omega arith)) (add-one k)
 
-suffix-is : (longest k w : ℕ) → 2 ^ k ≤ w → w < 2 * 2 ^ k → suffixBins longest w ≡ tb (suffixes longest k) (w - 2 ^ k)
+pub suffix-is : (longest k w : ℕ) → 2 ^ k ≤ w → w < 2 * 2 ^ k → suffixBins longest w ≡ tb (suffixes longest k) (w - 2 ^ k)
 unfolding suffixBins
 suffix-is longest k zero a b = absurd (omega (arith, pow-pos k))
 suffix-is longest k (suc w) a b = rw (flog-is k (suc w) a (omega arith))
+
+-- no prefix is longer than that of the longest run
+pub prefix-most : (longest more : ℕ) → 1 ≤ longest → more ≤ longest → prefixOf more ≤ flog longest + 1
+unfolding prefixOf
+prefix-most longest zero h g = omega arith
+prefix-most longest (suc v) h g =
+    let x : flog (suc v) < flog longest + 1 = exp-lt (flog longest + 1) (flog (suc v)) (omega (arith, flog-low (suc v) (omega arith), flog-high longest h)) in
+    omega arith
 
 pub runs-zero : (above : Bool) (sent more : ℕ) → runBins 0 above sent more ≡ []
 unfolding runBins

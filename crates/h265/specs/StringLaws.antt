@@ -6,17 +6,23 @@ use Prim.Native.Nat.{ℕ, zero, suc, _+_, _*_, _-_, _/_, _%_, _^_, _≤_, _<_}
 use native.Mathlib.Nat.{le-refl, div-div-eq-div-mul, mul-add-div-right, mul-add-mod-self-right}
 use native.Mathlib.Omega.{arith}
 use lib.Dec.{ltb}
-use lib.Pow.{pow-pos, pow-mono}
+use lib.Pow.{pow-pos, pow-mono, split as pow-split}
 use lib.ListN.{length}
 use native.Mathlib.Numerals.{add-one}
 use borrow.Author.Tests.{lt-ltb, le-ltb, ltb-true, ltb-false}
 use Rattle.base.specs.Powers.{pow-next}
-use Rattle.h265.specs.Strings.{bits, egkAux, egk, flogAux, flog, tb, short}
+use Rattle.h265.specs.Strings.{bits, egkAux, egk, flogAux, flog, tb, short, unary}
 
 pub length-bits : (n v : ℕ) → length (bits n v) ≡ n
 unfolding bits
 length-bits zero v = refl
 length-bits (suc n) v = ap suc (length-bits n v)
+
+-- the first of i bits
+pub bits-cons : (i v : ℕ) → 0 < i → bits i v ≡ ((v / 2 ^ (i - 1) % 2) ∷ []) ++ bits (i - 1) v
+unfolding bits
+bits-cons zero v h = absurd (omega arith)
+bits-cons (suc i) v h = let e : suc i - 1 ≡ i = omega arith in rw e
 
 egk-enough : (f g k v : ℕ) → v ≤ f → v ≤ g → egkAux f k v ≡ egkAux g k v
 unfolding egkAux
@@ -39,6 +45,30 @@ pub egk-more : (k v : ℕ) → 2 ^ k ≤ v → egk k v ≡ 1 ∷ egk (suc k) (v 
 unfolding egk egkAux
 egk-more k zero h = absurd (omega (arith, pow-pos k))
 egk-more k (suc v) h = rw (le-ltb (suc v) (2 ^ k) h) (ap (λ (l : List ℕ). 1 ∷ l) (egk-enough v (suc v - 2 ^ k) (suc k) (suc v - 2 ^ k) (omega (arith, pow-pos k)) (le-refl _)))
+
+-- the same over what a writer holds: p is 2^k
+pub egk-turn : (k v p : ℕ) → p ≡ 2 ^ k → p ≤ v → egk k v ≡ (1 ∷ []) ++ egk (k + 1) (v - p)
+egk-turn k v p e h = rw (e, add-one k) (egk-more k v (omega arith))
+
+-- v ones of at most m, and bin number i is next
+module _ (c : ℕ → ℕ) (i m v : ℕ) where
+  pub unary-more : (j w : ℕ) → m ≡ suc j → v ≡ suc w → unary c i m v ≡ ((c i * 2 + 1) ∷ []) ++ unary c (i + 1) j w
+  unfolding unary
+  unary-more j w e f = rw (e, f, add-one i)
+
+  pub unary-stop : (j : ℕ) → m ≡ suc j → v ≡ 0 → unary c i m v ≡ c i * 2 ∷ []
+  unfolding unary
+  unary-stop j e f = rw (e, f)
+
+  pub unary-full : m ≡ 0 → unary c i m v ≡ []
+  unfolding unary
+  unary-full e = rw e
+
+pub length-unary : (c : ℕ → ℕ) (i m v : ℕ) → length (unary c i m v) ≤ m
+unfolding unary
+length-unary c i zero v = omega arith
+length-unary c i (suc m) zero = omega arith
+length-unary c i (suc m) (suc v) = omega (arith, length-unary c (suc i) m v)
 
 flog-enough : (f g n : ℕ) → n ≤ f → n ≤ g → flogAux f n ≡ flogAux g n
 unfolding flogAux
@@ -107,3 +137,6 @@ bits-low (suc n) h v =
     let q : h * 2 ^ suc n + v ≡ (h * 2) * 2 ^ n + v = let y : 2 ^ suc n ≡ 2 * 2 ^ n = omega arith in rw y (omega arith) in
     let d : ((h * 2) * 2 ^ n + v) / 2 ^ n ≡ h * 2 + v / 2 ^ n = mul-add-div-right (pow-pos n) (h * 2) v in
     rw (q, d, mul-add-mod-self-right h 2 (v / 2 ^ n), bits-low n (h * 2) v)
+
+pub bits-mod : (n v : ℕ) → bits n (v % 2 ^ n) ≡ bits n v
+bits-mod n v = sym (bits-low n (v / 2 ^ n) (v % 2 ^ n)) ∙ rw (pow-split v n)

@@ -35,7 +35,7 @@ flogAux (suc f) n = let more : ℕ = suc (flogAux f (n / 2)) in pick (ltb n 2) 0
 unfoldable pub flog : ℕ → ℕ
 flog n = flogAux n n
 
--- truncated binary (9.3.3.4) over an alphabet of n values; of n + 1 bits the last stands apart, as the reader finds it
+-- truncated binary (9.3.3.4) over an alphabet of n values: the low `short n` of them in floor(log2 n) bits, the others, raised by short n, in one more
 abbrev pub short : ℕ → ℕ
 short n = 2 ^ (flog n + 1) - n
 

@@ -2,15 +2,15 @@
 use mathlib.Core.Path.{_≡_, refl, ap, sym, _∙_}
 use mathlib.Core.Bool.{Bool, true, false}
 use mathlib.Core.List.{List}
-use Prim.Native.Nat.{ℕ, zero, suc, _+_, _*_, _≤_, _<_}
+use Prim.Native.Nat.{ℕ, zero, suc, _+_, _*_, _^_, _≤_, _<_}
 use lib.ListN.{length, getD}
 use borrow.Author.Tests.{lt-ltb, le-ltb, eq-eqb, ne-eqb}
 use native.Mathlib.Numerals.{add-one}
 use native.Mathlib.Omega.{arith}
 use Rattle.base.specs.Pick.{pick}
 use Rattle.base.specs.Answer.{Answer, Value, Refused, onward}
-use Rattle.h265.specs.Strings.{bit, runClass}
-use Rattle.h265.specs.Parse.{binAt, bitsFrom, unaryAt}
+use Rattle.h265.specs.Strings.{bit, runClass, suffixes}
+use Rattle.h265.specs.Parse.{binAt, bitsFrom, unaryAt, tbAt, suffixAt}
 
 module _ (c : ℕ) (l : List ℕ) (p : ℕ) where
   pub bin-ended : length l ≤ p → Refused 10 p ≡ binAt c l p
@@ -49,6 +49,11 @@ bits-end i a l p e = rw e
 unfoldable pub raise : ℕ → Answer ℕ → Answer ℕ
 raise k (Value v q) = Value (k + v) q
 raise k (Refused n q) = Refused n q
+
+pub raise-is : (k : ℕ) (a : Answer ℕ) → raise k a ≡ onward a (λ v q. Value (k + v) q)
+unfolding raise
+raise-is k (Value v q) = refl
+raise-is k (Refused n q) = refl
 
 raise-raise : (k : ℕ) (a : Answer ℕ) → raise (k + 1) a ≡ raise k (raise 1 a)
 unfolding raise
@@ -119,3 +124,12 @@ module _ (above : Bool) (sent i : ℕ) where
   pub class-rest : (i ≡ 0 → ⊥) → 3 ≤ i → 5 ≤ i → 0 ≡ runClass above sent i
   unfolding runClass
   class-rest e t u = rw (ne-eqb i 0 e, le-ltb i 3 t, le-ltb i 5 u)
+
+-- a run's suffix, none after prefix 0
+pub suffix-none : (longest k : ℕ) (l : List ℕ) (p : ℕ) → k ≡ 0 → Value 0 p ≡ suffixAt longest k l p
+unfolding suffixAt
+suffix-none longest k l p e = rw e
+
+pub suffix-some : (longest k j : ℕ) (l : List ℕ) (p : ℕ) → k ≡ suc j → suffixAt longest k l p ≡ onward (tbAt (suffixes longest j) l p) (λ v q. Value (2 ^ j + v) q)
+unfolding suffixAt
+suffix-some longest k j l p e = rw e

@@ -1,0 +1,67 @@
+// The writer of a run's length, palette_run_prefix with palette_run_suffix, onto a lent bin list.
+ghost use mathlib.Core.Path.{_≡_};
+ghost use Prim.Native.Nat.{_+_, _^_, _≤_, _<_};
+ghost use Rattle.base.specs.Laid.{Laid};
+ghost use Rattle.h265.specs.Strings.{unary, runClass, prefixOf, suffixBins, runBins};
+use bins::flog;
+use bins::pow2;
+use bins::run_class;
+use bins::suffixes;
+use put::put_bin;
+use put::put_tb;
+
+// The prefix in truncated unary: `ones` of at most `most`, each bin of its class.
+fn put_prefix(list: &mut [u8], at: usize, most: u32, ones: u32, above: bool, sent: u32) -> usize
+    requires { ⌜ (ones ≤ most) × (most ≤ 32) × (at + 32 < 2 ^ 63) ⌝ }
+    ensures laid { λ r. ⌜ Laid (now (list .entry)) at (unary (runClass above sent) 0 most ones) r (now (list .exit)) ⌝ }
+    ensures near { λ r. ⌜ r ≤ at + 32 ⌝ }
+{
+    let mut to = at;
+    let mut i: u32 = 0;
+    while i < ones {
+        to = put_bin(list, to, run_class(above, sent, i) * 2 + 1);
+        i += 1;
+    }
+    if i < most {
+        return put_bin(list, to, run_class(above, sent, i) * 2);
+    }
+    to
+}
+
+// The suffix of a run of `more` further cells of at most `longest`.
+fn put_suffix(list: &mut [u8], at: usize, longest: u32, more: u32) -> usize
+    requires { ⌜ (more ≤ longest) × (longest ≤ 1024) × (at + 32 < 2 ^ 63) ⌝ }
+    ensures laid { λ r. ⌜ Laid (now (list .entry)) at (suffixBins longest more) r (now (list .exit)) ⌝ }
+    ensures near { λ r. ⌜ r ≤ at + 32 ⌝ }
+{
+    if more == 0 {
+        return at;
+    }
+    let p = pow2(flog(more));
+    put_tb(list, at, suffixes(longest, p), more - p)
+}
+
+// The prefix's ones.
+fn prefix_of(more: u32) -> u32
+    requires { ⌜ more ≤ 1024 ⌝ }
+    ensures { λ r. ⌜ r ≡ prefixOf more ⌝ }
+{
+    if more == 0 {
+        return 0;
+    }
+    flog(more) + 1
+}
+
+// A run of `more` further cells of at most `longest`; nothing where there is no choice.
+pub fn put_run(list: &mut [u8], at: usize, longest: u32, above: bool, sent: u32, more: u32) -> usize
+    requires { ⌜ (more ≤ longest) × (longest ≤ 1024) × (at + 64 < 2 ^ 63) ⌝ }
+    ensures laid { λ r. ⌜ Laid (now (list .entry)) at (runBins longest above sent more) r (now (list .exit)) ⌝ }
+    ensures near { λ r. ⌜ r ≤ at + 64 ⌝ }
+{
+    if longest == 0 {
+        return at;
+    }
+    let most = flog(longest) + 1;
+    let q = put_prefix(list, at, most, prefix_of(more), above, sent);
+    put_suffix(list, q, longest, more)
+}
