@@ -8,4 +8,5 @@ pub mod Cells
 pub mod Counted
 pub mod Prepend
 pub mod Powers
+pub mod Lists
 pub mod Tests

@@ -4,8 +4,8 @@ use mathlib.Core.Bool.{Bool, true, false}
 use mathlib.Core.Logic.{_⊎_, inl, inr}
 use Prim.Native.Nat.{ℕ, _≤_, _<_}
 use native.Mathlib.Omega.{arith}
-use lib.Dec.{ltb}
-use borrow.Author.Tests.{ltb-true, ltb-false}
+use lib.Dec.{ltb, eqb}
+use borrow.Author.Tests.{ltb-true, ltb-false, eqb-true, eqb-false}
 
 -- the first of two where the test holds, else the second
 abbrev pub pick : {A : Type 0} → Bool → A → A → A
@@ -22,3 +22,6 @@ true-false e = let z : _≡_ {A = ℕ} 1 0 = ap (λ (b : Bool). pick b 1 0) e in
 
 pub lt-or-le : (a b : ℕ) → (a < b) ⊎ (b ≤ a)
 lt-or-le a b = either (ltb a b) (λ e. inl (ltb-true a b e)) (λ e. inr (ltb-false a b e))
+
+pub eq-or-ne : (a b : ℕ) → (a ≡ b) ⊎ (a ≡ b → ⊥)
+eq-or-ne a b = either (eqb a b) (λ e. inl (eqb-true a b e)) (λ e. inr (eqb-false a b e))

@@ -15,6 +15,12 @@ trues [] = 0
 trues (true ∷ fs) = suc (trues fs)
 trues (false ∷ fs) = trues fs
 
+-- the entries that are reused
+unfoldable pub flagged : {A : Type 0} → List Bool → List A → List A
+flagged [] es = []
+flagged (f ∷ fs) [] = []
+flagged (f ∷ fs) (e ∷ es) = pick f (e ∷ flagged fs es) (flagged fs es)
+
 -- how many entries are passed over before the next that is reused; all of them where none is
 unfoldable pub lead : List Bool → ℕ
 lead [] = 0

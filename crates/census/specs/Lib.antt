@@ -1,0 +1,3 @@
+pub mod Census
+pub mod Laws
+pub mod Going

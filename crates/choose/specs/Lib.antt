@@ -1,0 +1,3 @@
+pub mod Choose
+pub mod Laws
+pub mod Turns
