@@ -9,6 +9,7 @@ use Rattle.base.specs.Pick.{pick}
 use Rattle.base.specs.Answer.{Answer, Value, Refused, onward}
 use Rattle.base.specs.Codes.{whenAt, whenBins, eachAt, eachBins}
 use Rattle.model.specs.declared.Color as D
+use Rattle.h265.specs.Scan.{rowOf, colOf}
 use Rattle.h265.specs.Strings.{bit, binOf, bits, egk, tb, countBins, marker}
 use Rattle.h265.specs.Parse.{binAt, bitsAt, egkAt, held, tbAt, countAt, markerAt}
 use Rattle.h265.specs.Reuse.{trues, reuseBins, reuseAt}
@@ -144,12 +145,6 @@ pub record Levels : Type 0 where
   pub y : List ℕ
   pub cb : List ℕ
   pub cr : List ℕ
-
-abbrev pub rowOf : ℕ → ℕ → ℕ
-rowOf size i = i / size
-
-abbrev pub colOf : ℕ → ℕ → ℕ
-colOf size i = pick (eqb (i / size % 2) 0) (i % size) (size - 1 - i % size)
 
 abbrev pub even : ℕ → Bool
 even i = eqb (i % 2) 0

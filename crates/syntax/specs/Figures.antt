@@ -10,13 +10,11 @@ use Rattle.h265.specs.Parse.{binAt, bitsFrom, onesFrom, egkAt, held, tbAt, unar
 use Rattle.base.specs.Codes.{eachAt, eachBins}
 use Rattle.h265.specs.Reuse.{trues, lead, codeOf, gapOf, reuseBins, reuseAt}
 use Rattle.syntax.specs.Runs.{Run, sentOf, finalOf, asked, inferred, kindBins, kindAt, moreBins, moreAt, runsBins, nextSent, runsAt}
-use Rattle.syntax.specs.Replay.{aboveAt, reference, lessOne, copyCells, indexOf, replay}
+use Rattle.h265.specs.Scan.{rowOf, colOf, scanAt, placeAbove, aboveAt}
+use Rattle.syntax.specs.Replay.{reference, lessOne, copyCells, indexOf, replay}
 use Rattle.syntax.specs.Test.{both, copied, drawn, sentRight, rules, replays}
 use Rattle.syntax.specs.Entry.{every, pairwise, test1, test2, fitting, test5, level, test7, test8, readAnswer, writeAnswer}
-use Rattle.syntax.specs.Block.{Entry, Call, Palette, Map, Levels, Block, Told, column, entries, signalledBins, signalledAt, entriesBins, entriesAt, paletteBins, paletteAt, indicesBins, indicesAt, codedBins, codedAt, mapBins, mapAt, cellsOf, chromaDue, dues, levelBins, levelAt, levelsBins, levelsAt, sentBins, sentAt, chosen, toldBy, blockBins, readBlock, rowOf, colOf}
-
-pub scan-4 : (colOf 4 4 ≡ 3) × (rowOf 4 4 ≡ 1)
-scan-4 = (refl, refl)
+use Rattle.syntax.specs.Block.{Entry, Call, Palette, Map, Levels, Block, Told, column, entries, signalledBins, signalledAt, entriesBins, entriesAt, paletteBins, paletteAt, indicesBins, indicesAt, codedBins, codedAt, mapBins, mapAt, cellsOf, chromaDue, dues, levelBins, levelAt, levelsBins, levelsAt, sentBins, sentAt, chosen, toldBy, blockBins, readBlock}
 
 pub golomb-0 : (egk 0 0 ≡ 0 ∷ []) × (egk 0 1 ≡ 1 ∷ 0 ∷ 0 ∷ []) × (egk 0 2 ≡ 1 ∷ 0 ∷ 1 ∷ []) × (egk 0 3 ≡ 1 ∷ 1 ∷ 0 ∷ 0 ∷ 0 ∷ [])
 unfolding egk egkAux bits
@@ -62,7 +60,7 @@ unfolding call-2 block-2 runs-2 bins-2 blockBins paletteBins reuseBins signalled
 written-2 = refl
 
 pub read-2 : readBlock call-2 bins-2 0 ≡ Value (record { block = block-2; runs = runs-2 }) 29
-unfolding call-2 block-2 runs-2 bins-2 readBlock sentAt paletteAt reuseAt signalledAt entriesAt trues eachAt bitsFrom binAt egkAt onesFrom held entries mapAt codedAt indicesAt countAt riceAt unaryAt tbAt flog flogAux runsAt kindAt asked inferred nextSent moreAt runAt runClass suffixAt suffixes levelsAt dues levelAt cellsOf replay copyCells aboveAt indexOf reference toldBy chosen markerAt
+unfolding call-2 block-2 runs-2 bins-2 readBlock sentAt paletteAt reuseAt signalledAt entriesAt trues eachAt bitsFrom binAt egkAt onesFrom held entries mapAt codedAt indicesAt countAt riceAt unaryAt tbAt flog flogAux runsAt kindAt asked inferred nextSent moreAt runAt runClass suffixAt suffixes levelsAt dues levelAt cellsOf replay copyCells placeAbove scanAt rowOf colOf aboveAt indexOf reference toldBy chosen markerAt
 read-2 = refl
 
 -- ---- the reader's refusals, each worked out by hand: format 0, 8 bits, lossy, limit 64
@@ -108,7 +106,7 @@ no-class = (refl, refl, refl)
 
 -- the index sent that equals its reference gets 1 too, and after a copy-above run the reference is the cell above, not the cell before
 pub slips : (indexOf 3 false (0 ∷ 1 ∷ []) 1 ≡ 2) × (indexOf 2 true (0 ∷ 1 ∷ 1 ∷ []) 0 ≡ 1) × (indexOf 2 false (0 ∷ 1 ∷ 1 ∷ []) 0 ≡ 0)
-unfolding indexOf reference aboveAt
+unfolding indexOf reference aboveAt placeAbove scanAt rowOf colOf
 slips = (refl, refl, refl)
 
 -- the limit is the stream's: at 2 the reuse runs stop after two entries and no count is sent; at 64 both are
@@ -118,5 +116,5 @@ limits = (refl, refl, refl, refl)
 
 -- the entry points on the worked example: with room it is written, with less 9; runs that do not replay are 8
 pub entry-2 : (writeAnswer call-2 block-2 runs-2 29 ≡ Value bins-2 29) × (writeAnswer call-2 block-2 runs-2 28 ≡ Refused 9 0) × (writeAnswer call-2 block-2 [] 29 ≡ Refused 8 0) × (readAnswer call-2 4 bins-2 ≡ Value (record { block = block-2; runs = runs-2 }) 29) × (readAnswer call-2 3 bins-2 ≡ Refused 9 0)
-unfolding writeAnswer readAnswer test1 test2 fitting test5 level test7 test8 every pairwise both copied drawn sentRight rules replays lessOne aboveAt reference trues call-2 block-2 runs-2 bins-2 written-2 blockBins paletteBins reuseBins signalledBins entriesBins column eachBins bits egk egkAux mapBins codedBins indicesBins countBins rice unary tb flog flogAux sentOf finalOf runsBins kindBins asked moreBins runBins runClass prefixOf suffixBins suffixes levelsBins dues levelBins readBlock sentAt paletteAt reuseAt signalledAt entriesAt eachAt bitsFrom binAt egkAt onesFrom held entries mapAt codedAt indicesAt countAt riceAt unaryAt tbAt runsAt kindAt inferred nextSent moreAt runAt suffixAt levelsAt levelAt cellsOf replay copyCells indexOf toldBy chosen markerAt
+unfolding writeAnswer readAnswer test1 test2 fitting test5 level test7 test8 every pairwise both copied drawn sentRight rules replays lessOne aboveAt placeAbove scanAt rowOf colOf reference trues call-2 block-2 runs-2 bins-2 written-2 blockBins paletteBins reuseBins signalledBins entriesBins column eachBins bits egk egkAux mapBins codedBins indicesBins countBins rice unary tb flog flogAux sentOf finalOf runsBins kindBins asked moreBins runBins runClass prefixOf suffixBins suffixes levelsBins dues levelBins readBlock sentAt paletteAt reuseAt signalledAt entriesAt eachAt bitsFrom binAt egkAt onesFrom held entries mapAt codedAt indicesAt countAt riceAt unaryAt tbAt runsAt kindAt inferred nextSent moreAt runAt suffixAt levelsAt levelAt cellsOf replay copyCells indexOf toldBy chosen markerAt
 entry-2 = (refl, refl, refl, refl, refl)

@@ -7,15 +7,8 @@ use Prim.Native.Nat.{ℕ, zero, suc, _+_, _*_, _-_, _/_, _≤_, _<_}
 use lib.Dec.{ltb, eqb}
 use lib.ListN.{length, getD, replicate}
 use Rattle.base.specs.Pick.{pick}
+use Rattle.h265.specs.Scan.{aboveAt}
 use Rattle.syntax.specs.Runs.{Run, mayCopy}
-
--- the place of the cell one row up in the same column; rows turn
-abbrev pub placeAbove : ℕ → ℕ → ℕ
-placeAbove size i = 2 * (i / size * size) - (i + 1)
-
--- the index above place i, which reads as 0 in row 0
-unfoldable pub aboveAt : ℕ → List ℕ → ℕ → ℕ
-aboveAt size xs i = pick (ltb i size) 0 (getD xs (placeAbove size i) 0)
 
 -- the reference of an index run at place i > 0: after a copy-above run the cell above, else the cell before
 unfoldable pub reference : ℕ → Bool → List ℕ → ℕ → ℕ

@@ -16,12 +16,11 @@ use Rattle.base.specs.Pick.{true-false}
 use Rattle.base.specs.Codes.{Each, All}
 use Rattle.syntax.specs.Runs.{Run, sentOf, mayCopy, Rule, Keeps}
 use Rattle.syntax.specs.KeepLaws.{sent-above, sent-index, keeps-le}
-use Rattle.syntax.specs.Replay.{placeAbove, aboveAt, reference, lessOne, Copies, Draws, Rules, Replays, copyCells, indexOf, replay}
+use Rattle.h265.specs.Scan.{placeAbove, aboveAt}
+use Rattle.h265.specs.ScanLaws.{above-before}
+use Rattle.syntax.specs.Replay.{reference, lessOne, Copies, Draws, Rules, Replays, copyCells, indexOf, replay}
 
 -- ---- the cell above, seen in a front part of the cells
-
-pub above-before : (size i : ℕ) → size ≤ i → 0 < i → placeAbove size i < i
-above-before size i h z = omega (arith, div-add-mod' i size)
 
 pub above-take : (size k i : ℕ) (xs : List ℕ) → i ≤ k → 0 < size → aboveAt size (take k xs) i ≡ aboveAt size xs i
 unfolding aboveAt
@@ -30,7 +29,7 @@ above-take size k i xs h z =
     (λ t. rw t)
     (λ t.
     let o : size ≤ i = ltb-false i size t in
-    let b : placeAbove size i < i = above-before size i o (omega arith) in
+    let b : placeAbove size i < i = above-before size i o z in
     rw (t, getD-take k xs (placeAbove size i) 0 (omega arith)))
 
 pub reference-take : (size : ℕ) (prev : Bool) (k : ℕ) (xs : List ℕ) → 0 < k → 0 < size → reference size prev (take k xs) k ≡ reference size prev xs k

@@ -12,7 +12,8 @@ use borrow.Author.Tests.{lt-ltb, ltb-true, eqb-true, eqb-false, eq-eqb, ne-eqb}
 use Rattle.base.specs.Pick.{pick, either}
 use Rattle.base.specs.Pick.{true-false}
 use Rattle.syntax.specs.Runs.{Run, mayCopy}
-use Rattle.syntax.specs.Replay.{aboveAt, reference, lessOne, Copies, Draws, Rules, Replays}
+use Rattle.h265.specs.Scan.{aboveAt}
+use Rattle.syntax.specs.Replay.{reference, lessOne, Copies, Draws, Rules, Replays}
 
 -- both tests hold, the second looked at only where the first does
 unfoldable pub both : Bool → Bool → Bool
