@@ -1,6 +1,8 @@
 -- The traverse scan (6.5): cell i of a block of size × size cells. Even rows run left to right, odd rows right to left.
 use Prim.Native.Nat.{ℕ, _+_, _*_, _-_, _/_, _%_}
-use lib.Dec.{eqb}
+use mathlib.Core.List.{List}
+use lib.Dec.{eqb, ltb}
+use lib.ListN.{getD}
 use Rattle.base.specs.Pick.{pick}
 
 -- the column of the cell that is number x of its row, and the number of the cell at column x
@@ -20,3 +22,7 @@ scanAt size col row = row * size + along size row col
 -- the scan place of the cell one row up in the same column
 unfoldable pub placeAbove : ℕ → ℕ → ℕ
 placeAbove size i = scanAt size (colOf size i) (rowOf size i - 1)
+
+-- what stands above place i of the cells xs along the scan; it reads as 0 in row 0
+unfoldable pub aboveAt : ℕ → List ℕ → ℕ → ℕ
+aboveAt size xs i = pick (ltb i size) 0 (getD xs (placeAbove size i) 0)

@@ -1,0 +1,17 @@
+pub mod Runs
+pub mod KeepLaws
+pub mod RunsLaws
+pub mod Replay
+pub mod Block
+pub mod PaletteLaws
+pub mod MapLaws
+pub mod LevelLaws
+pub mod BlockLaws
+pub mod ReplayLaws
+pub mod Whole
+pub mod WholeLaws
+pub mod Test
+pub mod RunTurns
+pub mod Entry
+pub mod BlockPlaces
+pub mod Figures
