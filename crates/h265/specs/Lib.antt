@@ -11,3 +11,7 @@ pub mod Turns
 pub mod Reuse
 pub mod ReuseLaws
 pub mod Places
+pub mod Scan
+pub mod ScanLaws
+pub mod Escape
+pub mod EscapeLaws
