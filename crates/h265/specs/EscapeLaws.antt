@@ -1,6 +1,6 @@
 -- Steps are from 40 to 294912; the value of an escape level by cases.
 use mathlib.Core.Bool.{Bool, true, false}
-use mathlib.Core.Path.{_≡_, refl}
+use mathlib.Core.Path.{_≡_, refl, _∙_}
 use Prim.Native.Nat.{ℕ, zero, suc, _+_, _*_, _-_, _/_, _%_, _^_, _≤_, _<_, min}
 use native.Mathlib.Nat.{mul-le-mul}
 use native.Mathlib.Omega.{arith}
@@ -10,7 +10,7 @@ use lib.Pow.{pow-mono, pow-pos}
 use lib.Signed.{shrZ, _≤ℤ_}
 use borrow.Author.Tests.{ltb-false}
 use Rattle.base.specs.Pick.{either}
-use Rattle.h265.specs.Escape.{fromZero, scaleOf, stepOf, escapeValue}
+use Rattle.h265.specs.Escape.{fromZero, scaleOf, stepOf, stepAt, escapeValue}
 
 -- ---- steps
 
@@ -41,6 +41,14 @@ pub from-zero-le : (z : ℤ) (n : ℕ) → z ≤ℤ pos n → fromZero z ≤ n
 from-zero-le (pos m) n h = leb→le m n (h .le)
 from-zero-le (negsuc m) n h = omega arith
 
+pub step-at-low : (qp : ℤ) → 40 ≤ stepAt qp
+unfolding stepAt
+step-at-low qp = step-low (fromZero qp)
+
+pub step-at-high : (qp : ℤ) → qp ≤ℤ pos 75 → stepAt qp ≤ 294912
+unfolding stepAt
+step-at-high qp h = step-high (fromZero qp) (from-zero-le qp 75 h)
+
 -- ---- the value of a level
 
 pub value-lossless : (step most : ℕ) (level : ℤ) → escapeValue true step most level ≡ min (fromZero level) most
@@ -67,3 +75,8 @@ value-down step most n = rw (down (suc n * step)) (omega arith)
 pub value-le : (lossless : Bool) (step most : ℕ) (level : ℤ) → escapeValue lossless step most level ≤ most
 unfolding escapeValue
 value-le lossless step most level = omega arith
+
+-- so a level and its part from 0 on have one value
+pub value-from : (step most : ℕ) (level : ℤ) → escapeValue false step most (pos (fromZero level)) ≡ escapeValue false step most level
+value-from step most (pos n) = refl
+value-from step most (negsuc n) = value-up step most 0 ∙ omega (arith, value-down step most n)

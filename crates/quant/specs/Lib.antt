@@ -1,0 +1,3 @@
+pub mod Quant
+pub mod QuantLaws
+pub mod Signed
