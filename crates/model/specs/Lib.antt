@@ -1,2 +1,3 @@
 pub mod Domain
+pub mod DomainLaws
 pub mod Whole
