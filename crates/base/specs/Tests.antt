@@ -1,7 +1,7 @@
 -- Tests put together: every one of a list, any of it, and a test at every place below a bound.
 use mathlib.Core.Path.{_≡_, refl, ap, sym, _∙_}
 use mathlib.Core.Bool.{Bool, true, false, _&&_, _||_}
-use mathlib.Core.List.{List, [], _∷_}
+use mathlib.Core.List.{List, [], _∷_, _++_}
 use mathlib.Core.Logic.{⊎-elim}
 use Prim.Native.Nat.{ℕ, zero, suc, _+_, _≤_, _<_}
 use native.Mathlib.Numerals.{add-one}
@@ -68,6 +68,11 @@ ors-any a [] = sym (pick-test a)
 ors-any true (b ∷ bs) = ors-any true bs
 ors-any false (b ∷ bs) = ors-any b bs
 
+pub every-append : (xs ys : List Bool) → every (xs ++ ys) ≡ pick (every xs) (every ys) false
+every-append [] ys = refl
+every-append (true ∷ xs) ys = every-append xs ys
+every-append (false ∷ xs) ys = refl
+
 module _ (f : ℕ → Bool) where
   pub up-to-none : upTo 0 f ≡ true
   unfolding upTo
@@ -105,3 +110,14 @@ pub up-to-same : (n : ℕ) (f g : ℕ → Bool) → ((i : ℕ) → i < n → f i
 unfolding upTo
 up-to-same zero f g h = refl
 up-to-same (suc n) f g h = rw (up-to-same n f g (λ i l. h i (omega arith)), h n (omega arith))
+
+-- two tests at every place
+pub up-to-both : (n : ℕ) (f g : ℕ → Bool) → upTo n (λ i. every (f i ∷ g i ∷ [])) ≡ pick (upTo n f) (upTo n g) false
+unfolding upTo
+up-to-both zero f g = refl
+up-to-both (suc n) f g = rw (up-to-both n f g) (go (upTo n f) (upTo n g) (f n) (g n))
+  where
+    go : (a b c d : Bool) → pick (pick a b false) (every (c ∷ d ∷ [])) false ≡ pick (pick a c false) (pick b d false) false
+    go true true c d = ap (λ (t : Bool). pick c t false) (pick-test d)
+    go true false c d = sym (pick-same c false)
+    go false b c d = refl

@@ -15,3 +15,4 @@ pub mod Scan
 pub mod ScanLaws
 pub mod Escape
 pub mod EscapeLaws
+pub mod Predictor

@@ -47,6 +47,10 @@ between a b x e =
     let l = both (leb a x) _ e in
     (leb-true a x (l .0), leb-true x b (both (leb x b) true (l .1) .0))
 
+pub size-bounds : (size : ℕ) → sizeIn size ≡ true → (1 ≤ size) × (size ≤ 32)
+unfolding sizeIn
+size-bounds size e = between 1 32 size e
+
 pub source-bounds : (format : ℕ) (g : SourceBlock) → sourceIn format g ≡ true → SourceBounds g
 unfolding sourceIn sizeIn sideIn
 source-bounds format g e =
@@ -57,7 +61,7 @@ source-bounds format g e =
     let ch = both (leb (g .chh) 65535) _ (cw .1) in
     let x = both (leb (g .x0) 65535) _ (ch .1) in
     let y = both (leb (g .y0) 65535) _ (x .1) in
-    let size = between 1 32 (g .size) (s .0) in
+    let size = size-bounds (g .size) (s .0) in
     let width = between 1 65535 (g .yw) (w .0) in
     let height = between 1 65535 (g .yh) (h .0) in
     record {

@@ -1,3 +1,4 @@
 pub mod Domain
 pub mod DomainLaws
 pub mod Whole
+pub mod WholeLaws
