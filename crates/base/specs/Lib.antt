@@ -8,3 +8,5 @@ pub mod Cells
 pub mod Counted
 pub mod Powers
 pub mod Tests
+pub mod Sums
+pub mod Refusals
