@@ -1,13 +1,13 @@
 -- A list with k places from a on set to f of the place: what a loop over cells leaves.
 use mathlib.Core.Path.{_≡_, refl, ap, sym, _∙_}
-use mathlib.Core.List.{List}
+use mathlib.Core.List.{List, map}
 use mathlib.Core.Logic.{⊎-elim}
 use Prim.Native.Nat.{ℕ, zero, suc, _+_, _*_, _-_, _≤_, _<_}
 use native.Mathlib.Numerals.{add-one}
 use native.Mathlib.Nat.{mul-le-mul, suc-mul}
 use native.Mathlib.Omega.{arith}
-use lib.ListN.{length, getD, set, length-set}
-use lib.Seq.{getD-set-same, getD-set-other}
+use lib.ListN.{length, getD, set, length-set, length-map, List·getD-map}
+use lib.Seq.{getD-set-same, getD-set-other, ext-getD}
 use Rattle.base.specs.Pick.{lt-or-le}
 
 unfoldable pub laid : {A : Type 0} → (ℕ → A) → List A → ℕ → ℕ → List A
@@ -99,3 +99,11 @@ row-small y size h k =
 -- the same from place 0 on
 pub laid-on : {A : Type 0} (f : ℕ → A) (l out : List A) (k : ℕ) (v : A) → out ≡ laid f l 0 k → v ≡ f k → set out k v ≡ laid f l 0 (k + 1)
 laid-on f l out k v e h = let z : 0 + k ≡ k = omega arith in rw z at (laid-step f l out 0 k v e (h ∙ ap f (sym z)))
+
+-- a function of every element of a list
+pub laid-map : {A B : Type 0} (f : A → B) (d : A) (l : List A) (z : List B) → length z ≡ length l → laid (λ (j : ℕ). f (getD l j d)) z 0 (length l) ≡ map f l
+laid-map f d l z h =
+    ext-getD (f d) (laid (λ (j : ℕ). f (getD l j d)) z 0 (length l)) (map f l) (laid-length (λ (j : ℕ). f (getD l j d)) z 0 (length l) ∙ h ∙ sym (length-map l f))
+    (λ i m.
+    laid-in (λ (j : ℕ). f (getD l j d)) z 0 (length l) i (f d) (omega arith) (omega (arith, laid-length (λ (j : ℕ). f (getD l j d)) z 0 (length l))) (omega arith)
+    ∙ sym (List·getD-map f l i d))

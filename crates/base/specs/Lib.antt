@@ -10,3 +10,5 @@ pub mod Prepend
 pub mod Powers
 pub mod Lists
 pub mod Tests
+pub mod Sums
+pub mod Refusals

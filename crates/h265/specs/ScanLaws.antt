@@ -45,6 +45,15 @@ pub col-lt : (size i : ℕ) → 1 ≤ size → colOf size i < size
 unfolding colOf
 col-lt size i h = along-lt size (i / size) (i % size) (mod-lt i h)
 
+-- place x of a row
+pub place-row : (size row x : ℕ) → x < size → rowOf size (row * size + x) ≡ row
+unfolding rowOf
+place-row size row x h = digits-div row h
+
+pub place-col : (size row x : ℕ) → x < size → colOf size (row * size + x) ≡ along size row x
+unfolding colOf
+place-col size row x h = rw (digits-div row h, digits-mod row h)
+
 -- a scan place lies in the block
 pub in-block : (size i : ℕ) → i < size * size → (colOf size i < size) × (rowOf size i < size)
 unfolding rowOf

@@ -2,3 +2,4 @@ pub mod Domain
 pub mod DomainLaws
 pub mod Whole
 pub mod WholeLaws
+pub mod ConfigLaws

@@ -1,0 +1,54 @@
+-- What refusal 1 leaves.
+use mathlib.Core.Path.{_≡_, sym}
+use mathlib.Core.Bool.{Bool, true, false}
+use mathlib.Core.List.{[], _∷_}
+use Prim.Native.Nat.{ℕ, _≤_}
+use native.Mathlib.Omega.{arith}
+use borrow.Author.Tests.{eqb-true}
+use lib.Dec.{T, eqb}
+use lib.IntN.{ℤ, pos, negsuc}
+use lib.Signed.{leZ, _≤ℤ_}
+use Rattle.base.specs.Pick.{pick, either, true-false}
+use Rattle.base.specs.Tests.{every, any, both}
+use Rattle.model.specs.declared.PaletteConfig.{PaletteConfig}
+use Rattle.model.specs.Domain.{formatIn, depthIn, qpIn, configIn, most}
+
+-- samples are of at most 12 bits
+pub depth-most : (d : ℕ) → depthIn d ≡ true → most d ≤ 4095
+unfolding depthIn
+depth-most d h =
+    either (eqb d 8)
+    (λ t. rw (eqb-true d 8 t) (omega arith))
+    (λ t.
+    either (eqb d 10)
+    (λ u. rw (eqb-true d 10 u) (omega arith))
+    (λ u.
+    either (eqb d 12)
+    (λ v. rw (eqb-true d 12 v) (omega arith))
+    (λ v. absurd (true-false (sym (rw (t, u, v) at h))))))
+
+pub qp-most : (q : ℤ) → qpIn q ≡ true → q ≤ℤ pos 75
+unfolding qpIn
+qp-most q h = record { le = yes (leZ q (pos 75)) (both (leZ q (pos 75)) true (both (leZ (negsuc 127) q) _ h .1) .0) }
+  where
+    yes : (b : Bool) → b ≡ true → T b
+    yes true e = tt
+    yes false e = absurd (true-false (sym e))
+
+pub record ConfigBounds (c : PaletteConfig) : Type 0 where
+  pub luma : depthIn (c .«bd_luma») ≡ true
+  pub chroma : depthIn (c .«bd_chroma») ≡ true
+  pub y : c .«qp_y» ≤ℤ pos 75
+  pub cb : c .«qp_cb» ≤ℤ pos 75
+  pub cr : c .«qp_cr» ≤ℤ pos 75
+
+pub config-bounds : (c : PaletteConfig) → configIn c ≡ true → ConfigBounds c
+unfolding configIn
+config-bounds c h =
+    let f = both (formatIn (c .«num_comps») (c .«chroma_idc»)) _ h in
+    let l = both (depthIn (c .«bd_luma»)) _ (f .1) in
+    let d = both (depthIn (c .«bd_chroma»)) _ (l .1) in
+    let y = both (qpIn (c .«qp_y»)) _ (d .1) in
+    let b = both (qpIn (c .«qp_cb»)) _ (y .1) in
+    let r = both (qpIn (c .«qp_cr»)) true (b .1) in
+    record { luma = l .0; chroma = d .0; y = qp-most (c .«qp_y») (y .0); cb = qp-most (c .«qp_cb») (b .0); cr = qp-most (c .«qp_cr») (r .0) }
