@@ -1,0 +1,2 @@
+pub mod Source
+pub mod Laws

@@ -1,0 +1,2 @@
+pub mod Sse
+pub mod Laws
