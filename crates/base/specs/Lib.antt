@@ -2,6 +2,7 @@ pub mod Pick
 pub mod Answer
 pub mod Stands
 pub mod Codes
+pub mod Alls
 pub mod Laid
 pub mod Cells
 pub mod Counted

@@ -17,3 +17,4 @@ pub mod ScanLaws
 pub mod Escape
 pub mod EscapeLaws
 pub mod Worked
+pub mod Predictor

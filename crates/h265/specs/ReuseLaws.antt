@@ -5,14 +5,19 @@ use mathlib.Core.List.{List, [], _∷_, _++_}
 use Prim.Native.Nat.{ℕ, zero, suc, _+_, _-_, _^_, _≤_, _<_}
 use native.Mathlib.Omega.{arith}
 use lib.Dec.{leb, eqb}
+<<<<<<< HEAD
 use lib.ListN.{length, drop, replicate, length-replicate, length-append, length-drop}
 use lib.Seq.{drop-drop}
 use native.Mathlib.Numerals.{add-one}
+=======
+use lib.ListN.{length, take, drop, getD, replicate, length-replicate, length-append, length-drop}
+>>>>>>> model
 use borrow.Author.Tests.{eqb-true, eqb-false, eq-eqb, ne-eqb, leb-true, leb-false, le-leb, lt-leb}
 use Rattle.base.specs.Pick.{pick, either}
 use Rattle.base.specs.Answer.{Answer, Value, Refused, onward, went, refused-not, same-value, same-place}
+use Rattle.base.specs.Counted.{read, end}
 use Rattle.base.specs.Stands.{Stands, stands-none, none-stands, join, split, Code}
-use Rattle.h265.specs.Strings.{egk}
+use Rattle.h265.specs.Strings.{bit, egk}
 use Rattle.h265.specs.Parse.{egkAt}
 use Rattle.h265.specs.EgkLaws.{egk-code}
 use Rattle.h265.specs.Reuse.{trues, lead, codeOf, gapOf, reuseBins, reuseAt}
@@ -278,3 +283,17 @@ reuse-back (suc room) k l p q fs e =
 
 pub reuse-code : (room k : ℕ) → k ≤ 65535 → Code (reuseAt room k) (reuseBins room) (ReuseOk room k)
 reuse-code room k small = record { there = reuse-there room k small; back = reuse-back room k }
+
+-- ---- flags counted one by one
+
+trues-cons : (b : Bool) (fs : List Bool) → trues (b ∷ fs) ≡ bit b + trues fs
+unfolding trues
+trues-cons true fs = omega arith
+trues-cons false fs = omega arith
+
+pub trues-at : (fs : List Bool) (count i : ℕ) → i < count → count ≤ length fs → trues (drop i (take count fs)) ≡ bit (getD fs i false) + trues (drop (i + 1) (take count fs))
+trues-at fs count i h o = rw (read fs count i false h o) (trues-cons (getD fs i false) (drop (i + 1) (take count fs)))
+
+pub trues-end : (fs : List Bool) (count i : ℕ) → count ≤ i → count ≤ length fs → trues (drop i (take count fs)) ≡ 0
+unfolding trues
+trues-end fs count i h o = rw (end fs count i h o)

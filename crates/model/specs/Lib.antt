@@ -1,2 +1,4 @@
 pub mod Domain
+pub mod DomainLaws
 pub mod Whole
+pub mod WholeLaws

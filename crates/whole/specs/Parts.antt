@@ -1,0 +1,164 @@
+-- The clauses of "holds together" over the numbers that the code holds, and the cells in two passes.
+use mathlib.Core.Path.{_≡_, refl, ap, sym, _∙_}
+use mathlib.Core.Bool.{Bool, true, false, not, _&&_, Bool·beq}
+use mathlib.Core.List.{List, [], _∷_}
+use Prim.Native.Nat.{ℕ, _+_, _*_, _-_, _≤_, _<_, min}
+use native.Mathlib.Omega.{arith}
+use borrow.Author.Tests.{leb-true, le-leb, eq-eqb, ne-eqb, eqb-true, eqb-false}
+use lib.Dec.{eqb, leb}
+use lib.ListN.{getD, take}
+use Rattle.base.specs.Pick.{pick, either}
+use Rattle.base.specs.Tests.{every, any, both, upTo, ands, ands-every, every-append, and-pick, up-to-both, up-to-same, pick-test}
+use Rattle.h265.specs.Reuse.{trues}
+use Rattle.h265.specs.Strings.{bit}
+use Rattle.model.specs.declared.Levels.{Levels}
+use Rattle.model.specs.declared.PaletteCu.{PaletteCu}
+use Rattle.model.specs.Domain.{sizeIn, evenIn, depthIn, most, colorIn, noColor}
+use Rattle.model.specs.DomainLaws.{leb-capped, size-bounds}
+use Rattle.model.specs.Whole.{same, maxIndex, blockSizeIn, formatHolds, countsHold, entriesHold, levelIn, levelsIn, noLevels, cellHolds, emptyHolds, holds, assignable}
+
+abbrev pub sizeHolds : ℕ → ℕ → Bool
+sizeHolds format size = every (sizeIn size ∷ evenIn format size ∷ [])
+
+abbrev pub formatAre : ℕ → ℕ → ℕ → Bool
+formatAre format luma chroma = every (leb format 3 ∷ depthIn luma ∷ depthIn chroma ∷ [])
+
+abbrev pub emptyIs : ℕ → Bool → Bool → Bool
+emptyIs size escape transpose = pick (eqb size 0) (every (escape ∷ not transpose ∷ [])) true
+
+-- ---- levels, held to 16-bit bounds
+
+abbrev pub levelCap : Bool → ℕ → ℕ
+levelCap lossless depth = min 65535 (pick lossless (most depth) 32767)
+
+abbrev pub chromaCap : Bool → ℕ → ℕ → ℕ
+chromaCap lossless format depth = pick (eqb format 0) 65535 (levelCap lossless depth)
+
+abbrev pub lumaCapOf : PaletteCu → ℕ
+lumaCapOf cu = levelCap (cu .lossless) (cu .«bd_luma»)
+
+abbrev pub chromaCapOf : PaletteCu → ℕ
+chromaCapOf cu = chromaCap (cu .lossless) (cu .«chroma_idc») (cu .«bd_chroma»)
+
+-- with the bounds of a block, the test is the block's
+abbrev pub Within : ℕ → ℕ → Levels → Bool → Type 0
+Within ym cm l r = (cu : PaletteCu) → ym ≡ lumaCapOf cu → cm ≡ chromaCapOf cu → r ≡ levelsIn cu l
+
+chroma-capped : (lossless : Bool) (format depth b r : ℕ) → b ≤ 65535 → r ≤ 65535 → every (leb b (chromaCap lossless format depth) ∷ leb r (chromaCap lossless format depth) ∷ []) ≡ every (any (eqb format 0 ∷ every (levelIn lossless depth b ∷ levelIn lossless depth r ∷ []) ∷ []) ∷ [])
+unfolding levelIn
+chroma-capped lossless format depth b r hb hr =
+    let m = pick lossless (most depth) 32767 in
+    let t = every (leb b m ∷ leb r m ∷ []) in
+    either (eqb format 0)
+    (λ e. rw (e, le-leb b 65535 hb, le-leb r 65535 hr))
+    (λ e. rw (e, leb-capped b m hb, leb-capped r m hr) (sym (pick-test (pick t true false) ∙ pick-test t)))
+
+pub levels-capped : (ym cm : ℕ) (l : Levels) → l .y ≤ 65535 → l .cb ≤ 65535 → l .cr ≤ 65535 → Within ym cm l (ands (leb (l .y) ym) (leb (l .cb) cm ∷ leb (l .cr) cm ∷ []))
+unfolding levelsIn levelIn
+levels-capped ym cm l hy hb hr cu ey ec =
+    ands-every (leb (l .y) ym) (leb (l .cb) cm ∷ leb (l .cr) cm ∷ [])
+    ∙ rw (ey, ec, leb-capped (l .y) (pick (cu .lossless) (most (cu .«bd_luma»)) 32767) hy, chroma-capped (cu .lossless) (cu .«chroma_idc») (cu .«bd_chroma») (l .cb) (l .cr) hb hr)
+
+-- ---- cells: indices first, escapes only where an index can mark one
+
+unfoldable pub escapeHolds : PaletteCu → ℕ → Bool
+escapeHolds cu i = pick (eqb (getD (cu .indices) i 0) (cu .«palette_size»)) (levelsIn cu (getD (cu .escapes) i noLevels)) true
+
+module _ (cu : PaletteCu) (i : ℕ) where
+  pub escape-levels : getD (cu .indices) i 0 ≡ cu .«palette_size» → escapeHolds cu i ≡ levelsIn cu (getD (cu .escapes) i noLevels)
+  unfolding escapeHolds
+  escape-levels e = rw (eq-eqb _ _ e)
+
+  pub escape-none : (getD (cu .indices) i 0 ≡ cu .«palette_size» → ⊥) → escapeHolds cu i ≡ true
+  unfolding escapeHolds
+  escape-none e = rw (ne-eqb _ _ e)
+
+module _ (cu : PaletteCu) (n m : ℕ) (is : m ≡ cu .«palette_size» + bit (cu .«escape_present») - 1) where
+  pub cells-two : (a b : Bool) → a ≡ upTo n (λ i. leb (getD (cu .indices) i 0) m) → b ≡ upTo n (escapeHolds cu) → a && b ≡ upTo n (cellHolds cu)
+  unfolding cellHolds escapeHolds maxIndex
+  cells-two a b ea eb = and-pick a b ∙ rw (ea, eb, is) (sym (up-to-both n _ _))
+
+  pub cells-one : (a : Bool) → a ≡ upTo n (λ i. leb (getD (cu .indices) i 0) m) → m < cu .«palette_size» → a ≡ upTo n (cellHolds cu)
+  unfolding cellHolds maxIndex
+  cells-one a ea h = ea ∙ up-to-same n _ _ (λ i k. one (getD (cu .indices) i 0) (levelsIn cu (getD (cu .escapes) i noLevels)))
+    where
+      one : (x : ℕ) (t : Bool) → leb x m ≡ every (leb x (cu .«palette_size» + bit (cu .«escape_present») - 1) ∷ pick (eqb x (cu .«palette_size»)) t true ∷ [])
+      one x t =
+          rw (sym is)
+          (either (leb x m)
+          (λ e. let l : x ≤ m = leb-true x m e in rw (e, ne-eqb x (cu .«palette_size») (λ z. omega arith)))
+          (λ e. rw e))
+
+-- ---- the clauses on numbers first, then those on lists
+
+abbrev pub numbersHold : ℕ → ℕ → ℕ → ℕ → ℕ → ℕ → ℕ → ℕ → Bool
+numbersHold limit size format luma chroma palette flags tolerance =
+    every (sizeHolds format size ∷ formatAre format luma chroma ∷ leb palette limit ∷ leb flags 128 ∷ leb tolerance 16 ∷ [])
+
+abbrev pub numbersAssignable : ℕ → ℕ → ℕ → ℕ → ℕ → ℕ → ℕ → Bool
+numbersAssignable limit size format luma chroma palette tolerance =
+    every (sizeHolds format size ∷ formatAre format luma chroma ∷ leb 1 palette ∷ leb palette limit ∷ leb tolerance 16 ∷ [])
+
+module _ (limit : ℕ) (cu : PaletteCu) where
+  abbrev pub numbersOf : Bool
+  numbersOf = numbersHold limit (cu .size) (cu .«chroma_idc») (cu .«bd_luma») (cu .«bd_chroma») (cu .«palette_size») (cu .«pred_size») (cu .tolerance)
+
+  abbrev lists : List Bool
+  lists = countsHold cu ∷ entriesHold cu ∷ upTo (cu .size * cu .size) (cellHolds cu) ∷ emptyHolds cu ∷ []
+
+  holds-parts : holds limit cu ≡ pick numbersOf (every lists) false
+  unfolding holds blockSizeIn formatHolds
+  holds-parts = every-append (blockSizeIn cu ∷ formatHolds cu ∷ leb (cu .«palette_size») limit ∷ leb (cu .«pred_size») 128 ∷ leb (cu .tolerance) 16 ∷ []) lists
+
+  pub numbers-fail : numbersOf ≡ false → false ≡ holds limit cu
+  numbers-fail e = sym (holds-parts ∙ rw e)
+
+  pub lists-hold : (a b c d : Bool) → numbersOf ≡ true → a ≡ eqb (trues (take (cu .«pred_size») (cu .reused)) + cu .«num_signaled») (cu .«palette_size») → b ≡ upTo (cu .«palette_size») (λ i. colorIn (cu .«chroma_idc») (cu .«bd_luma») (cu .«bd_chroma») (getD (cu .palette) i noColor)) → c ≡ upTo (cu .size * cu .size) (cellHolds cu) → d ≡ emptyIs (cu .«palette_size») (cu .«escape_present») (cu .transpose) → ands a (b ∷ c ∷ d ∷ []) ≡ holds limit cu
+  unfolding countsHold entriesHold emptyHolds
+  lists-hold a b c d e ea eb ec ed = ands-every a (b ∷ c ∷ d ∷ []) ∙ rw (ea, eb, ec, ed) (sym (holds-parts ∙ rw e))
+
+  pub numbers-bounds : numbersOf ≡ true → (cu .size ≤ 32) × (cu .«palette_size» ≤ limit) × (cu .«pred_size» ≤ 128)
+  numbers-bounds e =
+      let s = both (sizeHolds (cu .«chroma_idc») (cu .size)) _ e in
+      let f = both (formatAre (cu .«chroma_idc») (cu .«bd_luma») (cu .«bd_chroma»)) _ (s .1) in
+      let p = both (leb (cu .«palette_size») limit) _ (f .1) in
+      let g = both (leb (cu .«pred_size») 128) _ (p .1) in
+      (size-bounds (cu .size) (both (sizeIn (cu .size)) _ (s .0) .0) .1, leb-true _ _ (p .0), leb-true _ _ (g .0))
+
+  abbrev pub assignableOf : Bool
+  assignableOf = numbersAssignable limit (cu .size) (cu .«chroma_idc») (cu .«bd_luma») (cu .«bd_chroma») (cu .«palette_size») (cu .tolerance)
+
+  assignable-parts : assignable limit cu ≡ pick assignableOf (every (entriesHold cu ∷ [])) false
+  unfolding assignable blockSizeIn formatHolds
+  assignable-parts = every-append (blockSizeIn cu ∷ formatHolds cu ∷ leb 1 (cu .«palette_size») ∷ leb (cu .«palette_size») limit ∷ leb (cu .tolerance) 16 ∷ []) (entriesHold cu ∷ [])
+
+  pub assignable-fail : assignableOf ≡ false → false ≡ assignable limit cu
+  assignable-fail e = sym (assignable-parts ∙ rw e)
+
+  pub entries-assignable : (a : Bool) → assignableOf ≡ true → a ≡ upTo (cu .«palette_size») (λ i. colorIn (cu .«chroma_idc») (cu .«bd_luma») (cu .«bd_chroma») (getD (cu .palette) i noColor)) → a ≡ assignable limit cu
+  unfolding entriesHold
+  entries-assignable a e ea = ea ∙ sym (assignable-parts ∙ rw e (pick-test _))
+
+  pub assignable-bound : assignableOf ≡ true → cu .«palette_size» ≤ limit
+  assignable-bound e =
+      let s = both (sizeHolds (cu .«chroma_idc») (cu .size)) _ e in
+      let f = both (formatAre (cu .«chroma_idc») (cu .«bd_luma») (cu .«bd_chroma»)) _ (s .1) in
+      let n = both (leb 1 (cu .«palette_size»)) _ (f .1) in
+      leb-true _ _ (both (leb (cu .«palette_size») limit) _ (n .1) .0)
+
+-- equal flags, as code compares them
+pub beq-same : (a b : Bool) → Bool·beq a b ≡ same a b
+beq-same true true = refl
+beq-same true false = refl
+beq-same false true = refl
+beq-same false false = refl
+
+-- the rest of a palette, as code takes it
+pub counts-less : (t f signaled size : ℕ) → t ≡ f → size < t → false ≡ eqb (f + signaled) size
+counts-less t f signaled size e h = sym (ne-eqb (f + signaled) size (λ z. omega arith))
+
+pub counts-rest : (t f signaled size : ℕ) → t ≡ f → t ≤ size → eqb signaled (size - t) ≡ eqb (f + signaled) size
+counts-rest t f signaled size e h =
+    either (eqb (f + signaled) size)
+    (λ z. let k : f + signaled ≡ size = eqb-true _ _ z in eq-eqb signaled (size - t) (omega arith) ∙ sym z)
+    (λ z. ne-eqb signaled (size - t) (λ k. eqb-false (f + signaled) size z (omega arith)) ∙ sym z)
