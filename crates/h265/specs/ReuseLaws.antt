@@ -5,13 +5,9 @@ use mathlib.Core.List.{List, [], _∷_, _++_}
 use Prim.Native.Nat.{ℕ, zero, suc, _+_, _-_, _^_, _≤_, _<_}
 use native.Mathlib.Omega.{arith}
 use lib.Dec.{leb, eqb}
-<<<<<<< HEAD
-use lib.ListN.{length, drop, replicate, length-replicate, length-append, length-drop}
+use lib.ListN.{length, take, drop, getD, replicate, length-replicate, length-append, length-drop}
 use lib.Seq.{drop-drop}
 use native.Mathlib.Numerals.{add-one}
-=======
-use lib.ListN.{length, take, drop, getD, replicate, length-replicate, length-append, length-drop}
->>>>>>> model
 use borrow.Author.Tests.{eqb-true, eqb-false, eq-eqb, ne-eqb, leb-true, leb-false, le-leb, lt-leb}
 use Rattle.base.specs.Pick.{pick, either}
 use Rattle.base.specs.Answer.{Answer, Value, Refused, onward, went, refused-not, same-value, same-place}
