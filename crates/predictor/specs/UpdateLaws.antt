@@ -15,7 +15,7 @@ use Rattle.base.specs.Alls.{all-by, all-at}
 use Rattle.base.specs.Counted.{push}
 use Rattle.base.specs.Codes.{All}
 use Rattle.base.specs.Pick.{pick, either, lt-or-le, true-false}
-use Rattle.base.specs.Tests.{every, both, refusal, upTo, up-to-at, at-up-to}
+use Rattle.base.specs.Tests.{every, both, ands-every, refusal, upTo, up-to-at, at-up-to}
 use Rattle.h265.specs.Predictor.{unreused, updated, updated-length, updated-all, unreused-at, unreused-none}
 use Rattle.model.specs.declared.Color.{Color}
 use Rattle.model.specs.declared.PaletteCu.{PaletteCu}
@@ -102,19 +102,6 @@ filled k out whole h b w =
     ap (λ (o : List Color). record { entries = o; size = k }) e ∙ ap (λ (m : ℕ). record { entries = padded 128 whole; size = m }) n
 
 module _ (limit : ℕ) (most : limit ≤ 128) where
-  pub filling-start : (palette rest out : List Color) (k : ℕ) → k ≡ min (length palette) limit → out ≡ padded 128 (take k palette) → Filling limit k out rest (take limit (palette ++ rest))
-  filling-start palette rest out k e o =
-      let r : k ≤ limit = rw e (min-le-right (length palette) limit) in
-      let h : k ≤ length palette = rw e (min-le-left (length palette) limit) in
-      let s : length (take k palette) ≡ k = length-take-le k palette h in
-      let t : take k out ≡ take k palette = rw o (rw s at (padded-take 128 (take k palette))) in
-      record {
-        room = r;
-        blank = o ∙ ap (padded 128) (sym t);
-        long = rw o (padded-length 128 (take k palette) (omega arith));
-        makes = rw t (cut limit k palette rest e);
-      }
-
   pub filling-put : (k : ℕ) (out rest whole : List Color) (c : Color) → k < limit → Filling limit k out (c ∷ rest) whole → Filling limit (k + 1) (set out k c) rest whole
   filling-put k out rest whole c h f =
       let n = f .long in
@@ -142,16 +129,45 @@ module _ (limit : ℕ) (most : limit ≤ 128) where
       let s : length (take k out) ≡ k = length-take-le k out (omega arith) in
       filled k out whole (omega arith) (f .blank) (sym (take-all limit (take k out) (omega arith)) ∙ rw append-nil at (f .makes))
 
+-- ---- a palette of n entries, cut to the limit, stands in out
+
+module _ (limit : ℕ) (most : limit ≤ 128) (palette out : List Color) (n k : ℕ) (known : n ≤ length palette) (is : k ≡ min n limit) (first : out ≡ padded 128 (take k palette)) where
+  within : (k ≤ limit) × (k ≤ n)
+  within = (rw is (min-le-right n limit), rw is (min-le-left n limit))
+
+  stands : take k out ≡ take k palette
+  stands =
+      let h : k ≤ n = within .1 in
+      let s : length (take k palette) ≡ k = length-take-le k palette (omega arith) in
+      rw first (rw s at (padded-take 128 (take k palette)))
+
+  pub first-filling : (flags : List Bool) (old : List Color) → Filling limit k out (unreused flags old) (updated limit (take k out) flags old)
+  unfolding updated
+  first-filling flags old =
+      let r : k ≤ limit = within .0 in
+      let h : k ≤ n = within .1 in
+      let s : length (take k palette) ≡ k = length-take-le k palette (omega arith) in
+      record {
+        room = r;
+        blank = first ∙ ap (padded 128) (sym stands);
+        long = rw first (padded-length 128 (take k palette) (omega arith));
+        makes = refl;
+      }
+
+  pub first-cut : (flags : List Bool) (old : List Color) → renewedOf limit (take k out) flags old ≡ renewedOf limit (take n palette) flags old
+  unfolding renewedOf updated
+  first-cut flags old =
+      let h : k ≤ n = within .1 in
+      let s : length (take n palette) ≡ n = length-take-le n palette known in
+      let e : take k out ≡ take k (take n palette) = stands ∙ sym (take-take k n palette h) in
+      ap predictorOf (rw e (cut limit k (take n palette) (unreused flags old) (rw s is)))
+
 -- ---- the turns of the loop over the old entries
 
 module _ (limit : ℕ) (most : limit ≤ 128) (palette : List Color) (flags : List Bool) (count : ℕ) (old : List Color) (size : ℕ) (known : size ≤ length old) where
   -- at old entry j, k entries stand in out
   abbrev pub Renewing : ℕ → List Color → ℕ → Type 0
   Renewing k out j = Filling limit k out (unreused (drop j (take count flags)) (drop j (take size old))) (updated limit palette (take count flags) (take size old))
-
-  pub renewing-start : (k : ℕ) (out : List Color) → k ≡ min (length palette) limit → out ≡ padded 128 (take k palette) → Renewing k out 0
-  unfolding updated
-  renewing-start k out e o = filling-start limit most palette (unreused (take count flags) (take size old)) out k e o
 
   next : (j : ℕ) → j < size → unreused (drop j (take count flags)) (drop j (take size old)) ≡ pick (getD flags j false && ltb j count) (unreused (drop (j + 1) (take count flags)) (drop (j + 1) (take size old))) (getD old j noColor ∷ unreused (drop (j + 1) (take count flags)) (drop (j + 1) (take size old)))
   next j h =
@@ -174,6 +190,35 @@ module _ (limit : ℕ) (most : limit ≤ 128) (palette : List Color) (flags : Li
   renewing-end k out j h f =
       let s : length (take size old) ≡ size = length-take-le size old known in
       filling-end limit most k out _ (rw (unreused-none (take count flags) j (take size old) (omega arith)) at f)
+
+-- ---- the answers, in the order of the refusals; t is what the code found of the predictor
+
+module _ (p : PalettePredictor) (cu : PaletteCu) (limit : ℕ) where
+  pub update-two : blockSizeIn cu ≡ false → record { refusal = 2; predictor = p } ≡ updateOf p cu limit
+  unfolding updateOf updateRefusal
+  update-two a = rw a
+
+  module _ (t : Bool) (is : t ≡ predictorIn (cu .«chroma_idc») (cu .«bd_luma») (cu .«bd_chroma») p) where
+    tests : {b : Bool} → t && leb limit 128 ≡ b → every (predictorIn (cu .«chroma_idc») (cu .«bd_luma») (cu .«bd_chroma») p ∷ leb limit 128 ∷ []) ≡ b
+    tests e = rw (← is) (sym (ands-every t (leb limit 128 ∷ []))) ∙ e
+
+    pub update-five : blockSizeIn cu ≡ true → t && leb limit 128 ≡ false → record { refusal = 5; predictor = p } ≡ updateOf p cu limit
+    unfolding updateOf updateRefusal
+    update-five a b = rw (a, tests b)
+
+    pub update-seven : blockSizeIn cu ≡ true → t && leb limit 128 ≡ true → holds 64 cu ≡ false → record { refusal = 7; predictor = p } ≡ updateOf p cu limit
+    unfolding updateOf updateRefusal
+    update-seven a b c = rw (a, tests b, c)
+
+    pub update-done : (q : PalettePredictor) → blockSizeIn cu ≡ true → t && leb limit 128 ≡ true → holds 64 cu ≡ true → q ≡ renewedOf limit (take (cu .«palette_size») (cu .palette)) (take (cu .«pred_size») (cu .reused)) (take (p .size) (p .entries)) → record { refusal = 0; predictor = q } ≡ updateOf p cu limit
+    unfolding updateOf updateRefusal
+    update-done q a b c e = rw (a, tests b, c, e)
+
+    pub update-fits : t && leb limit 128 ≡ true → holds 64 cu ≡ true → (limit ≤ 128) × (cu .«palette_size» ≤ 64) × (p .size ≤ 128)
+    unfolding predictorIn
+    update-fits b c =
+        let d = both (predictorIn (cu .«chroma_idc») (cu .«bd_luma») (cu .«bd_chroma») p) _ (tests b) in
+        (leb-true _ _ (both (leb limit 128) true (d .1) .0), whole 64 cu c .entries, leb-true _ _ (both (leb (p .size) 128) _ (d .0) .0))
 
 -- ---- an update keeps a predictor in the domain of its block
 

@@ -44,9 +44,10 @@ loop-less c = omega arith
 loop-again : tie.Need-loop-again Inv-loop μ-loop
 loop-again c =
     let l = c .before .before .before .before .before .before .loop in
-    let cu = c .before .before .before .before .before .before .before .args .t1 in
-    (omega arith,
-    up-to-next (escapeHolds cu) (l .i) ∙ rw (l .inv .1) (escape-levels cu (l .i) (c .before .before .before .if1 .taken) ∙ sym (c .before .within .ensures cu (c .before .before .before .before .before .before .before .pre .1) (c .before .before .before .before .before .before .before .pre .2)) ∙ c .if2 .taken))
+    let cu = c .before .before .before .before .before .before .before .args .t1 in (
+      omega arith,
+      up-to-next (escapeHolds cu) (l .i) ∙ rw (l .inv .1) (escape-levels cu (l .i) (c .before .before .before .if1 .taken) ∙ sym (c .before .within .ensures cu (c .before .before .before .before .before .before .before .pre .1) (c .before .before .before .before .before .before .before .pre .2)) ∙ c .if2 .taken),
+    )
 
 returns : tie.Need-returns Inv-loop μ-loop
 returns c =
