@@ -23,6 +23,7 @@ pub record Reused (limit count : ℕ) (l : List ℕ) (p : ℕ) (flags : List Boo
   pub answer : reuseAt limit count l p ≡ Value (take count flags) q
   pub reused : v ≡ trues (take count flags)
   pub fits : v ≤ limit
+  pub rest : flags ≡ take count flags ++ replicate (128 - count) false
 
 module _ (limit count : ℕ) (l : List ℕ) (p : ℕ) (r : ReuseRead) (small : count ≤ 128) (e : r ≡ readOf (reuseAt limit count l p)) where
   pub value-read : (v q : ℕ) → r .got ≡ N.Is v q → Reused limit count l p (r .flags) v q
@@ -37,7 +38,12 @@ module _ (limit count : ℕ) (l : List ℕ) (p : ℕ) (r : ReuseRead) (small : c
           let y : take count (r .flags) ≡ fs = ap (λ (x : ReuseRead). take count (x .flags)) z ∙ take-at fs (replicate (128 - length fs) false) count (k .count) in
           let a : trues fs ≡ v = cc in
           let b : t ≡ q = cc in
-          record { answer = h ∙ rw (y, b); reused = rw y (sym a); fits = omega (arith, k .fits) }
+          record {
+            answer = h ∙ rw (y, b);
+            reused = rw y (sym a);
+            fits = omega (arith, k .fits);
+            rest = ap (λ (x : ReuseRead). x .flags) z ∙ rw (y, k .count);
+          }
       of (Refused n t) h =
           let z : r ≡ readOf (Refused n t) = e ∙ ap readOf h in
           let w : N.Refused n t ≡ N.Is v q = sym (ap (λ (x : ReuseRead). x .got) z) ∙ g in
