@@ -1,5 +1,5 @@
 -- Tests put together: every one of a list, any of it, and a test at every place below a bound.
-use mathlib.Core.Path.{_≡_, refl, ap, sym, _∙_}
+use mathlib.Core.Path.{_≡_, refl, ap, sym}
 use mathlib.Core.Bool.{Bool, true, false, _&&_, _||_}
 use mathlib.Core.List.{List, [], _∷_, _++_}
 use mathlib.Core.Logic.{⊎-elim}
@@ -45,6 +45,11 @@ pub and-pick : (a b : Bool) → a && b ≡ pick a b false
 and-pick true b = refl
 and-pick false b = refl
 
+pub pick-and : (a b c : Bool) → a && b ≡ false → pick a (pick b c false) false ≡ false
+pick-and true true c e = absurd (true-false e)
+pick-and true false c e = refl
+pick-and false b c e = refl
+
 pub or-pick : (a b : Bool) → a || b ≡ pick a true b
 or-pick true b = refl
 or-pick false b = refl
@@ -72,6 +77,12 @@ pub every-append : (xs ys : List Bool) → every (xs ++ ys) ≡ pick (every xs) 
 every-append [] ys = refl
 every-append (true ∷ xs) ys = every-append xs ys
 every-append (false ∷ xs) ys = refl
+
+pub every-swap : (a b : Bool) (cs : List Bool) → every (a ∷ b ∷ cs) ≡ every (b ∷ a ∷ cs)
+every-swap true true cs = refl
+every-swap true false cs = refl
+every-swap false true cs = refl
+every-swap false false cs = refl
 
 module _ (f : ℕ → Bool) where
   pub up-to-none : upTo 0 f ≡ true

@@ -1,15 +1,15 @@
 -- The palette predictor after a block (8.4.4.2.7): the block's palette in order, then the old entries that were not reused, in order, while the size is below the limit.
-use mathlib.Core.Path.{_≡_, refl, ap, sym, _∙_}
+use mathlib.Core.Path.{_≡_, refl, sym, _∙_}
 use mathlib.Core.Bool.{Bool, true, false}
 use mathlib.Core.List.{List, [], _∷_, _++_, append-assoc, append-nil}
-use Prim.Native.Nat.{ℕ, zero, suc, _+_, _≤_, _<_, min}
+use Prim.Native.Nat.{ℕ, zero, suc, _+_, _≤_, _<_}
 use native.Mathlib.Nat.{min-le-left}
 use native.Mathlib.Numerals.{add-one}
 use native.Mathlib.Omega.{arith}
 use borrow.Author.Tests.{ltb-true, ltb-false}
 use lib.Dec.{ltb}
-use lib.ListN.{length, take, drop, getD, length-append, length-take, drop-of-length-le, List·getD-eq-default}
-use lib.Seq.{drop-cons, take-all, take-append-le, take-append-seam, take-take}
+use lib.ListN.{length, take, drop, getD, length-append, length-take, drop-of-length-le}
+use lib.Seq.{drop-cons, take-all, take-append-seam, take-take}
 use Rattle.base.specs.Alls.{all-append, all-take}
 use Rattle.base.specs.Codes.{All}
 use Rattle.base.specs.Pick.{pick, either}

@@ -1,18 +1,18 @@
 -- The domain's tests as 16 bits hold them, and what each leaves.
-use mathlib.Core.Path.{_≡_, refl, ap, sym, _∙_}
-use mathlib.Core.Bool.{Bool, true, false}
-use mathlib.Core.List.{List, [], _∷_}
+use mathlib.Core.Path.{_≡_, ap, sym, _∙_}
+use mathlib.Core.Bool.{true}
+use mathlib.Core.List.{[], _∷_}
 use mathlib.Core.Logic.{⊎-elim}
-use Prim.Native.Nat.{ℕ, _+_, _*_, _-_, _^_, _≤_, _<_, min}
+use Prim.Native.Nat.{ℕ, _≤_, _<_, min}
 use native.Mathlib.Nat.{min-eq-left, min-eq-right}
 use native.Mathlib.Omega.{arith}
 use borrow.Author.Tests.{leb-true, le-leb}
-use lib.Dec.{eqb, leb}
-use Rattle.base.specs.Pick.{pick, lt-or-le}
-use Rattle.base.specs.Tests.{every, any, both, ands, ands-every}
+use lib.Dec.{leb}
+use Rattle.base.specs.Pick.{lt-or-le}
+use Rattle.base.specs.Tests.{every, both, ands, ands-every}
 use Rattle.model.specs.declared.Color.{Color}
 use Rattle.model.specs.declared.SourceBlock.{SourceBlock}
-use Rattle.model.specs.Domain.{sizeIn, evenIn, sideIn, sourceIn, most, mostChroma, colorIn}
+use Rattle.model.specs.Domain.{sizeIn, sideIn, sourceIn, most, mostChroma, colorIn}
 
 -- a number of 16 bits is held to a bound as it is to the bound's 16-bit form
 pub leb-capped : (x m : ℕ) → x ≤ 65535 → leb x (min 65535 m) ≡ leb x m

@@ -1,6 +1,6 @@
 -- When a block holds together (refusal 7 where it does not), clause by clause as document 01 lists them. `limit` is the palette's, 64.
-use mathlib.Core.Bool.{Bool, true, false, not}
-use mathlib.Core.List.{List, [], _∷_}
+use mathlib.Core.Bool.{Bool, true, not}
+use mathlib.Core.List.{[], _∷_}
 use Prim.Native.Nat.{ℕ, _+_, _*_, _-_}
 use lib.Dec.{eqb, leb}
 use lib.ListN.{getD, take}
@@ -11,7 +11,7 @@ use Rattle.h265.specs.Reuse.{trues}
 use Rattle.model.specs.declared.Levels.{Levels}
 use Rattle.model.specs.declared.PaletteConfig.{PaletteConfig}
 use Rattle.model.specs.declared.PaletteCu.{PaletteCu}
-use Rattle.model.specs.Domain.{depthIn, sizeIn, evenIn, most, mostChroma, colorIn, noColor}
+use Rattle.model.specs.Domain.{depthIn, sizeIn, evenIn, most, colorIn, noColor}
 
 -- M, the greatest index; 0 also for an empty palette
 unfoldable pub maxIndex : PaletteCu → ℕ

@@ -1,14 +1,12 @@
 -- What a block that holds together has.
-use mathlib.Core.Path.{_≡_, refl, ap, sym, _∙_}
-use mathlib.Core.Bool.{Bool, true, false}
-use mathlib.Core.List.{List, [], _∷_}
+use mathlib.Core.Path.{_≡_}
+use mathlib.Core.Bool.{true, false}
 use Prim.Native.Nat.{ℕ, _+_, _*_, _≤_, _<_}
-use native.Mathlib.Omega.{arith}
 use borrow.Author.Tests.{leb-true, eqb-true}
 use lib.Dec.{eqb, leb}
 use lib.ListN.{getD, take}
 use Rattle.base.specs.Pick.{pick}
-use Rattle.base.specs.Tests.{every, both, upTo, up-to-at}
+use Rattle.base.specs.Tests.{both, upTo, up-to-at}
 use Rattle.h265.specs.Reuse.{trues}
 use Rattle.model.specs.declared.PaletteCu.{PaletteCu}
 use Rattle.model.specs.Domain.{sizeIn, evenIn, depthIn, colorIn, noColor}

@@ -1,5 +1,5 @@
 -- The predictor after a block: document 01's "Update" and its refusals 2, 5 and 7.
-use mathlib.Core.Bool.{Bool, true, false}
+use mathlib.Core.Bool.{Bool}
 use mathlib.Core.List.{List, [], _∷_, _++_}
 use Prim.Native.Nat.{ℕ, _-_}
 use lib.Dec.{eqb, leb}

@@ -3,7 +3,7 @@ use mathlib.Core.Path.{_≡_, refl, ap, sym, _∙_}
 use mathlib.Core.Bool.{Bool, true, false, _&&_}
 use mathlib.Core.List.{List, [], _∷_, _++_, append-assoc, append-nil}
 use mathlib.Core.Logic.{⊎-elim}
-use Prim.Native.Nat.{ℕ, zero, suc, _+_, _-_, _≤_, _<_, min}
+use Prim.Native.Nat.{ℕ, suc, _+_, _-_, _≤_, _<_, min}
 use native.Mathlib.Nat.{min-eq-left, min-eq-right, min-le-left, min-le-right}
 use native.Mathlib.Numerals.{add-one}
 use native.Mathlib.Omega.{arith}
@@ -14,7 +14,7 @@ use lib.Seq.{take-all, take-take, take-suc, take-at, take-append-le, take-append
 use Rattle.base.specs.Alls.{all-by, all-at}
 use Rattle.base.specs.Counted.{push}
 use Rattle.base.specs.Codes.{All}
-use Rattle.base.specs.Pick.{pick, either, lt-or-le, true-false}
+use Rattle.base.specs.Pick.{pick, either, lt-or-le}
 use Rattle.base.specs.Tests.{every, both, ands-every, refusal, upTo, up-to-at, at-up-to}
 use Rattle.h265.specs.Predictor.{unreused, updated, updated-length, updated-all, unreused-at, unreused-none}
 use Rattle.model.specs.declared.Color.{Color}
@@ -26,10 +26,6 @@ use Rattle.model.specs.WholeLaws.{whole}
 use Rattle.predictor.specs.Update.{padded, predictorOf, emptyPredictor, renewedOf, updateRefusal, updateOf}
 
 -- ---- entries and none after them
-
-pub padded-none : (n : ℕ) → replicate n noColor ≡ padded n []
-unfolding padded
-padded-none n = let e : n - 0 ≡ n = omega arith in rw e
 
 pub padded-length : (n : ℕ) (xs : List Color) → length xs ≤ n → length (padded n xs) ≡ n
 unfolding padded
@@ -44,6 +40,11 @@ padded-push n xs a h =
 pub padded-take : (n : ℕ) (xs : List Color) → take (length xs) (padded n xs) ≡ xs
 unfolding padded
 padded-take n xs = take-append-seam xs _
+
+-- no entry yet
+pub empty-start : (p : PalettePredictor) → p ≡ emptyPredictor → (length (p .entries) ≡ 128) × (p .entries ≡ padded 128 [])
+unfolding emptyPredictor
+empty-start p e = rw e (padded-length 128 [] (omega arith), refl)
 
 -- one more entry of a list
 pub padded-next : (n : ℕ) (xs : List Color) (i : ℕ) (d : Color) → i < length xs → length xs ≤ n → set (padded n (take i xs)) i (getD xs i d) ≡ padded n (take (i + 1) xs)

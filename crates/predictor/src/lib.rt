@@ -1,6 +1,5 @@
 // The palette predictor: empty at first, and after each block its palette and what it did not reuse.
 ghost use mathlib.Core.Path.{_≡_};
-ghost use mathlib.Core.Bool.{Bool, true, false};
 ghost use Prim.Native.Nat.{_≤_, min};
 ghost use lib.ListN.{take};
 ghost use Rattle.predictor.specs.Update.{padded, emptyPredictor, renewedOf, updateOf};
@@ -42,7 +41,8 @@ fn palette_first(palette: [Color; 64], n: usize) -> [Color; 128]
     requires { ⌜ n ≤ 64 ⌝ }
     ensures { λ r. ⌜ r ≡ padded 128 (take n palette) ⌝ }
 {
-    let mut out = [Color { y: 0, cb: 0, cr: 0 }; 128];
+    let empty = reset();
+    let mut out = empty.entries;
     let mut i: usize = 0;
     while i < n {
         let c = palette[i];

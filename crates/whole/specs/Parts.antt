@@ -8,7 +8,7 @@ use borrow.Author.Tests.{leb-true, le-leb, eq-eqb, ne-eqb, eqb-true, eqb-false}
 use lib.Dec.{eqb, leb}
 use lib.ListN.{getD, take}
 use Rattle.base.specs.Pick.{pick, either}
-use Rattle.base.specs.Tests.{every, any, both, upTo, ands, ands-every, every-append, and-pick, up-to-both, up-to-same, pick-test}
+use Rattle.base.specs.Tests.{every, any, both, upTo, ands, ands-every, every-append, every-swap, and-pick, pick-and, up-to-both, up-to-same, pick-test}
 use Rattle.h265.specs.Reuse.{trues}
 use Rattle.h265.specs.Strings.{bit}
 use Rattle.model.specs.declared.Levels.{Levels}
@@ -91,60 +91,73 @@ module _ (cu : PaletteCu) (n m : ℕ) (is : m ≡ cu .«palette_size» + bit (cu
 
 -- ---- the clauses on numbers first, then those on lists
 
-abbrev pub numbersHold : ℕ → ℕ → ℕ → ℕ → ℕ → ℕ → ℕ → ℕ → Bool
-numbersHold limit size format luma chroma palette flags tolerance =
-    every (sizeHolds format size ∷ formatAre format luma chroma ∷ leb palette limit ∷ leb flags 128 ∷ leb tolerance 16 ∷ [])
-
-abbrev pub numbersAssignable : ℕ → ℕ → ℕ → ℕ → ℕ → ℕ → ℕ → Bool
-numbersAssignable limit size format luma chroma palette tolerance =
-    every (sizeHolds format size ∷ formatAre format luma chroma ∷ leb 1 palette ∷ leb palette limit ∷ leb tolerance 16 ∷ [])
+abbrev pub frameHolds : ℕ → ℕ → ℕ → ℕ → ℕ → ℕ → ℕ → Bool
+frameHolds limit size format luma chroma entries tolerance =
+    every (sizeHolds format size ∷ formatAre format luma chroma ∷ leb entries limit ∷ leb tolerance 16 ∷ [])
 
 module _ (limit : ℕ) (cu : PaletteCu) where
-  abbrev pub numbersOf : Bool
-  numbersOf = numbersHold limit (cu .size) (cu .«chroma_idc») (cu .«bd_luma») (cu .«bd_chroma») (cu .«palette_size») (cu .«pred_size») (cu .tolerance)
+  abbrev frame : Bool
+  frame = frameHolds limit (cu .size) (cu .«chroma_idc») (cu .«bd_luma») (cu .«bd_chroma») (cu .«palette_size») (cu .tolerance)
+
+  abbrev head : Bool → Bool
+  head t = pick (blockSizeIn cu) (pick (formatHolds cu) t false) false
 
   abbrev lists : List Bool
   lists = countsHold cu ∷ entriesHold cu ∷ upTo (cu .size * cu .size) (cellHolds cu) ∷ emptyHolds cu ∷ []
 
-  holds-parts : holds limit cu ≡ pick numbersOf (every lists) false
+  holds-parts : holds limit cu ≡ pick frame (every (leb (cu .«pred_size») 128 ∷ lists)) false
   unfolding holds blockSizeIn formatHolds
-  holds-parts = every-append (blockSizeIn cu ∷ formatHolds cu ∷ leb (cu .«palette_size») limit ∷ leb (cu .«pred_size») 128 ∷ leb (cu .tolerance) 16 ∷ []) lists
+  holds-parts =
+      ap (λ (t : Bool). head (pick (leb (cu .«palette_size») limit) t false)) (every-swap (leb (cu .«pred_size») 128) (leb (cu .tolerance) 16) lists)
+      ∙ every-append (blockSizeIn cu ∷ formatHolds cu ∷ leb (cu .«palette_size») limit ∷ leb (cu .tolerance) 16 ∷ []) (leb (cu .«pred_size») 128 ∷ lists)
 
-  pub numbers-fail : numbersOf ≡ false → false ≡ holds limit cu
-  numbers-fail e = sym (holds-parts ∙ rw e)
-
-  pub lists-hold : (a b c d : Bool) → numbersOf ≡ true → a ≡ eqb (trues (take (cu .«pred_size») (cu .reused)) + cu .«num_signaled») (cu .«palette_size») → b ≡ upTo (cu .«palette_size») (λ i. colorIn (cu .«chroma_idc») (cu .«bd_luma») (cu .«bd_chroma») (getD (cu .palette) i noColor)) → c ≡ upTo (cu .size * cu .size) (cellHolds cu) → d ≡ emptyIs (cu .«palette_size») (cu .«escape_present») (cu .transpose) → ands a (b ∷ c ∷ d ∷ []) ≡ holds limit cu
-  unfolding countsHold entriesHold emptyHolds
-  lists-hold a b c d e ea eb ec ed = ands-every a (b ∷ c ∷ d ∷ []) ∙ rw (ea, eb, ec, ed) (sym (holds-parts ∙ rw e))
-
-  pub numbers-bounds : numbersOf ≡ true → (cu .size ≤ 32) × (cu .«palette_size» ≤ limit) × (cu .«pred_size» ≤ 128)
-  numbers-bounds e =
-      let s = both (sizeHolds (cu .«chroma_idc») (cu .size)) _ e in
-      let f = both (formatAre (cu .«chroma_idc») (cu .«bd_luma») (cu .«bd_chroma»)) _ (s .1) in
-      let p = both (leb (cu .«palette_size») limit) _ (f .1) in
-      let g = both (leb (cu .«pred_size») 128) _ (p .1) in
-      (size-bounds (cu .size) (both (sizeIn (cu .size)) _ (s .0) .0) .1, leb-true _ _ (p .0), leb-true _ _ (g .0))
-
-  abbrev pub assignableOf : Bool
-  assignableOf = numbersAssignable limit (cu .size) (cu .«chroma_idc») (cu .«bd_luma») (cu .«bd_chroma») (cu .«palette_size») (cu .tolerance)
-
-  assignable-parts : assignable limit cu ≡ pick assignableOf (every (entriesHold cu ∷ [])) false
+  assignable-parts : assignable limit cu ≡ pick frame (every (leb 1 (cu .«palette_size») ∷ entriesHold cu ∷ [])) false
   unfolding assignable blockSizeIn formatHolds
-  assignable-parts = every-append (blockSizeIn cu ∷ formatHolds cu ∷ leb 1 (cu .«palette_size») ∷ leb (cu .«palette_size») limit ∷ leb (cu .tolerance) 16 ∷ []) (entriesHold cu ∷ [])
+  assignable-parts =
+      let n = cu .«palette_size» in
+      let t = leb (cu .tolerance) 16 in
+      ap head (every-swap (leb 1 n) (leb n limit) (t ∷ entriesHold cu ∷ []))
+      ∙ ap (λ (b : Bool). head (pick (leb n limit) b false)) (every-swap (leb 1 n) t (entriesHold cu ∷ []))
+      ∙ every-append (blockSizeIn cu ∷ formatHolds cu ∷ leb n limit ∷ t ∷ []) (leb 1 n ∷ entriesHold cu ∷ [])
 
-  pub assignable-fail : assignableOf ≡ false → false ≡ assignable limit cu
-  assignable-fail e = sym (assignable-parts ∙ rw e)
+  frame-size : frame ≡ true → cu .size ≤ 32
+  frame-size e =
+      let s = both (sizeHolds (cu .«chroma_idc») (cu .size)) _ e in
+      size-bounds (cu .size) (both (sizeIn (cu .size)) _ (s .0) .0) .1
 
-  pub entries-assignable : (a : Bool) → assignableOf ≡ true → a ≡ upTo (cu .«palette_size») (λ i. colorIn (cu .«chroma_idc») (cu .«bd_luma») (cu .«bd_chroma») (getD (cu .palette) i noColor)) → a ≡ assignable limit cu
-  unfolding entriesHold
-  entries-assignable a e ea = ea ∙ sym (assignable-parts ∙ rw e (pick-test _))
-
-  pub assignable-bound : assignableOf ≡ true → cu .«palette_size» ≤ limit
-  assignable-bound e =
+  frame-entries : frame ≡ true → cu .«palette_size» ≤ limit
+  frame-entries e =
       let s = both (sizeHolds (cu .«chroma_idc») (cu .size)) _ e in
       let f = both (formatAre (cu .«chroma_idc») (cu .«bd_luma») (cu .«bd_chroma»)) _ (s .1) in
-      let n = both (leb 1 (cu .«palette_size»)) _ (f .1) in
-      leb-true _ _ (both (leb (cu .«palette_size») limit) _ (n .1) .0)
+      leb-true _ _ (both (leb (cu .«palette_size») limit) _ (f .1) .0)
+
+  -- f is what the code found of the frame
+  module _ (f : Bool) (is : f ≡ frame) where
+    pub holds-not : f && leb (cu .«pred_size») 128 ≡ false → false ≡ holds limit cu
+    holds-not e = sym (holds-parts ∙ rw (← is) (pick-and f (leb (cu .«pred_size») 128) (every lists) e))
+
+    pub holds-rest : (a b c d : Bool) → f && leb (cu .«pred_size») 128 ≡ true → a ≡ eqb (trues (take (cu .«pred_size») (cu .reused)) + cu .«num_signaled») (cu .«palette_size») → b ≡ upTo (cu .«palette_size») (λ i. colorIn (cu .«chroma_idc») (cu .«bd_luma») (cu .«bd_chroma») (getD (cu .palette) i noColor)) → c ≡ upTo (cu .size * cu .size) (cellHolds cu) → d ≡ emptyIs (cu .«palette_size») (cu .«escape_present») (cu .transpose) → ands a (b ∷ c ∷ d ∷ []) ≡ holds limit cu
+    unfolding countsHold entriesHold emptyHolds
+    holds-rest a b c d e ea eb ec ed =
+        let t = both f (leb (cu .«pred_size») 128) (sym (and-pick f _) ∙ e) in
+        ands-every a (b ∷ c ∷ d ∷ []) ∙ rw (ea, eb, ec, ed) (sym (holds-parts ∙ rw (← is, t .0, t .1)))
+
+    pub holds-bounds : f && leb (cu .«pred_size») 128 ≡ true → (cu .size ≤ 32) × (cu .«palette_size» ≤ limit) × (cu .«pred_size» ≤ 128)
+    holds-bounds e =
+        let t = both f (leb (cu .«pred_size») 128) (sym (and-pick f _) ∙ e) in
+        (frame-size (sym is ∙ t .0), frame-entries (sym is ∙ t .0), leb-true _ _ (t .1))
+
+    pub assignable-not : f && leb 1 (cu .«palette_size») ≡ false → false ≡ assignable limit cu
+    assignable-not e = sym (assignable-parts ∙ rw (← is) (pick-and f (leb 1 (cu .«palette_size»)) (every (entriesHold cu ∷ [])) e))
+
+    pub assignable-rest : (a : Bool) → f && leb 1 (cu .«palette_size») ≡ true → a ≡ upTo (cu .«palette_size») (λ i. colorIn (cu .«chroma_idc») (cu .«bd_luma») (cu .«bd_chroma») (getD (cu .palette) i noColor)) → a ≡ assignable limit cu
+    unfolding entriesHold
+    assignable-rest a e ea =
+        let t = both f (leb 1 (cu .«palette_size»)) (sym (and-pick f _) ∙ e) in
+        ea ∙ sym (assignable-parts ∙ rw (← is, t .0, t .1) (pick-test _))
+
+    pub assignable-bound : f && leb 1 (cu .«palette_size») ≡ true → cu .«palette_size» ≤ limit
+    assignable-bound e = frame-entries (sym is ∙ both f (leb 1 (cu .«palette_size»)) (sym (and-pick f _) ∙ e) .0)
 
 -- equal flags, as code compares them
 pub beq-same : (a b : Bool) → Bool·beq a b ≡ same a b

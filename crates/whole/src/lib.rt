@@ -1,6 +1,6 @@
 // When a block holds together, clause by clause.
 ghost use mathlib.Core.Path.{_≡_};
-ghost use Prim.Native.Nat.{ℕ, _+_, _-_, _*_, _≤_};
+ghost use Prim.Native.Nat.{_+_, _-_, _*_, _≤_};
 ghost use lib.Dec.{eqb, leb};
 ghost use lib.ListN.{getD, take};
 ghost use Rattle.base.specs.Tests.{upTo};
@@ -8,7 +8,7 @@ ghost use Rattle.h265.specs.Reuse.{trues};
 ghost use Rattle.h265.specs.Strings.{bit};
 ghost use Rattle.model.specs.Domain.{colorIn, noColor};
 ghost use Rattle.model.specs.Whole.{blockSizeIn, matches, cellHolds, holds, assignable};
-ghost use Rattle.whole.specs.Parts.{sizeHolds, formatAre, emptyIs, numbersHold, numbersAssignable, levelCap, chromaCap, Within, lumaCapOf, chromaCapOf, escapeHolds};
+ghost use Rattle.whole.specs.Parts.{sizeHolds, formatAre, emptyIs, frameHolds, levelCap, chromaCap, Within, lumaCapOf, chromaCapOf, escapeHolds};
 use domain::color_in;
 use domain::depth_in;
 use domain::even_in;
@@ -197,42 +197,21 @@ fn empty_holds(size: usize, escape: bool, transpose: bool) -> bool
     true
 }
 
-// The clauses on size, format, depths, counts and tolerance.
-fn numbers_hold(
+// The clauses on numbers that every call with a block tests.
+fn frame_holds(
     limit: usize,
     size: usize,
     format: u8,
     luma: u8,
     chroma: u8,
-    palette: usize,
-    flags: usize,
+    entries: usize,
     tolerance: u64,
 ) -> bool
-    ensures { λ r. ⌜ r ≡ numbersHold limit size format luma chroma palette flags tolerance ⌝ }
+    ensures { λ r. ⌜ r ≡ frameHolds limit size format luma chroma entries tolerance ⌝ }
 {
     size_holds(format, size)
         & format_holds(format, luma, chroma)
-        & (palette <= limit)
-        & (flags <= 128)
-        & (tolerance <= 16)
-}
-
-// The same as assignment tests them.
-fn numbers_assignable(
-    limit: usize,
-    size: usize,
-    format: u8,
-    luma: u8,
-    chroma: u8,
-    palette: usize,
-    tolerance: u64,
-) -> bool
-    ensures { λ r. ⌜ r ≡ numbersAssignable limit size format luma chroma palette tolerance ⌝ }
-{
-    size_holds(format, size)
-        & format_holds(format, luma, chroma)
-        & (1 <= palette)
-        & (palette <= limit)
+        & (entries <= limit)
         & (tolerance <= 16)
 }
 
@@ -242,16 +221,16 @@ pub fn holds_together(limit: usize, cu: PaletteCu) -> bool
     ensures { λ r. ⌜ r ≡ holds limit cu ⌝ }
 {
     let n = cu.palette_size;
-    if numbers_hold(
+    let frame = frame_holds(
         limit,
         cu.size,
         cu.chroma_idc,
         cu.bd_luma,
         cu.bd_chroma,
         n,
-        cu.pred_size,
         cu.tolerance,
-    ) {
+    );
+    if frame & (cu.pred_size <= 128) {
         let flags = cu.reused;
         let palette = cu.palette;
         return counts_hold(flags, cu.pred_size, cu.num_signaled, n)
@@ -268,7 +247,7 @@ pub fn assignable(limit: usize, cu: PaletteCu) -> bool
     ensures { λ r. ⌜ r ≡ assignable limit cu ⌝ }
 {
     let n = cu.palette_size;
-    if numbers_assignable(
+    let frame = frame_holds(
         limit,
         cu.size,
         cu.chroma_idc,
@@ -276,7 +255,8 @@ pub fn assignable(limit: usize, cu: PaletteCu) -> bool
         cu.bd_chroma,
         n,
         cu.tolerance,
-    ) {
+    );
+    if frame & (1 <= n) {
         let palette = cu.palette;
         return entries_hold(cu.chroma_idc, cu.bd_luma, cu.bd_chroma, palette, n);
     }

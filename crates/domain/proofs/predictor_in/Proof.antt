@@ -1,11 +1,9 @@
-use mathlib.Core.Bool.{Bool}
-use mathlib.Core.Path.{_≡_, _∙_, sym, ap, refl}
-use Prim.Native.Nat.{ℕ, _≤_, _-_, _+_}
+use mathlib.Core.Path.{_≡_, _∙_, sym}
+use Prim.Native.Nat.{_≤_, _-_}
 use native.Mathlib.Omega.{arith}
 use borrow.Author.Tests.{le-leb, lt-leb}
 use lib.ListN.{getD}
 use Rattle.base.specs.Tests.{upTo, up-to-none, up-to-next, and-pick, pick-test}
-use Rattle.model.specs.declared.PalettePredictor.{PalettePredictor}
 use Rattle.model.specs.Domain.{predictorIn, colorIn, noColor}
 use borrow.Author.Needs.{needs}
 use Rattle.domain.proofs.predictor_in.Statement.{statement}

@@ -1,5 +1,4 @@
 use mathlib.Core.List.{[], _∷_}
-use mathlib.Core.Path.{_∙_}
 use lib.IntN.{pos, negsuc}
 use lib.Signed.{leZ}
 use mir.ValLaws.{toZ-ofZ}

@@ -1,9 +1,8 @@
-use mathlib.Core.Path.{_≡_, _∙_, sym, ap}
-use mathlib.Core.List.{List}
-use Prim.Native.Nat.{ℕ, _≤_, _-_, _+_}
+use mathlib.Core.Path.{_∙_}
+use Prim.Native.Nat.{_≤_, _-_}
 use native.Mathlib.Nat.{min-le-left}
 use native.Mathlib.Omega.{arith}
-use lib.ListN.{length, take, drop, getD, set}
+use lib.ListN.{take, drop}
 use Rattle.h265.specs.Predictor.{unreused, updated}
 use Rattle.predictor.specs.UpdateLaws.{Filling, first-filling, first-cut, renewing-passed, renewing-kept, renewing-full, renewing-end}
 use borrow.Author.Needs.{needs}

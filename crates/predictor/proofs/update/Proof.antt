@@ -1,4 +1,4 @@
-use mathlib.Core.Path.{_≡_, _∙_, sym, ap}
+use mathlib.Core.Path.{_∙_, sym}
 use Rattle.predictor.specs.UpdateLaws.{update-two, update-five, update-seven, update-done, update-fits}
 use borrow.Author.Needs.{needs}
 use Rattle.predictor.proofs.update.Statement.{statement}

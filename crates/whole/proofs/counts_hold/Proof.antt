@@ -1,5 +1,3 @@
-use mathlib.Core.Path.{_≡_, _∙_, sym}
-use native.Mathlib.Omega.{arith}
 use Rattle.whole.specs.Parts.{counts-less, counts-rest}
 use borrow.Author.Needs.{needs}
 use Rattle.whole.proofs.counts_hold.Statement.{statement}

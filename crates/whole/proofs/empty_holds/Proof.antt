@@ -1,6 +1,5 @@
 use mathlib.Core.Bool.{not}
 use mathlib.Core.List.{[], _∷_}
-use mathlib.Core.Path.{_≡_, _∙_, sym, ap}
 use borrow.Author.Tests.{eq-eqb, ne-eqb}
 use Rattle.base.specs.Tests.{ands-every}
 use borrow.Author.Needs.{needs}

@@ -1,6 +1,6 @@
-use mathlib.Core.Bool.{true, false}
-use mathlib.Core.Path.{_≡_, _∙_, sym, ap}
-use Prim.Native.Nat.{ℕ, _≤_, _-_, _+_}
+use mathlib.Core.Bool.{true}
+use mathlib.Core.Path.{_≡_, _∙_, sym}
+use Prim.Native.Nat.{_≤_, _-_}
 use native.Mathlib.Omega.{arith}
 use Rattle.base.specs.Tests.{upTo, up-to-none, up-to-next, up-to-fails}
 use Rattle.whole.specs.Parts.{escapeHolds, escape-levels, escape-none}

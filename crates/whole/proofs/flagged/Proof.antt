@@ -1,9 +1,8 @@
-use mathlib.Core.Bool.{true, false}
 use mathlib.Core.Logic.{⊎-elim}
-use mathlib.Core.Path.{_≡_, _∙_, sym, ap}
-use Prim.Native.Nat.{ℕ, suc, _≤_, _-_, _+_}
+use mathlib.Core.Path.{_≡_}
+use Prim.Native.Nat.{_≤_, _-_, _+_}
 use native.Mathlib.Omega.{arith}
-use lib.ListN.{length, take, drop, getD}
+use lib.ListN.{take, drop}
 use Rattle.h265.specs.Reuse.{trues}
 use Rattle.h265.specs.ReuseLaws.{trues-at, trues-end}
 use borrow.Author.Needs.{needs}

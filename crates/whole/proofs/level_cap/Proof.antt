@@ -1,4 +1,4 @@
-use mathlib.Core.Path.{_≡_, _∙_, sym, ap}
+use mathlib.Core.Path.{_∙_}
 use borrow.Author.Needs.{needs}
 use Rattle.whole.proofs.level_cap.Statement.{statement}
 use Rattle.whole.proofs.level_cap.Tie as tie
