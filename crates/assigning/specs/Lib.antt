@@ -1,0 +1,3 @@
+pub mod Assigning
+pub mod Laws
+pub mod Holds
