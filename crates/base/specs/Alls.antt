@@ -1,8 +1,9 @@
 -- What holds of each element of a list.
-use mathlib.Core.List.{List, [], _∷_, _++_}
-use Prim.Native.Nat.{ℕ, zero, suc, _<_}
+use mathlib.Core.Path.{_≡_, refl}
+use mathlib.Core.List.{List, [], _∷_, _++_, map}
+use Prim.Native.Nat.{ℕ, zero, suc, _≤_, _<_}
 use native.Mathlib.Omega.{arith}
-use lib.ListN.{length, take, getD}
+use lib.ListN.{length, take, drop, getD}
 use Rattle.base.specs.Codes.{All}
 
 module _ {A : Type 0} (Good : A → Type 0) where
@@ -24,3 +25,13 @@ module _ {A : Type 0} (Good : A → Type 0) where
   all-take zero xs a = tt
   all-take (suc n) [] a = tt
   all-take (suc n) (x ∷ xs) a = (a .0, all-take n xs (a .1))
+
+  pub all-drop : (n : ℕ) (xs : List A) → All Good xs → All Good (drop n xs)
+  all-drop zero xs a = a
+  all-drop (suc n) [] a = tt
+  all-drop (suc n) (x ∷ xs) a = all-drop n xs (a .1)
+
+-- of a function of each
+pub all-map : {A B : Type 0} (Good : B → Type 0) (f : A → B) (xs : List A) → All (λ x. Good (f x)) xs → All Good (map f xs)
+all-map Good f [] a = tt
+all-map Good f (x ∷ xs) a = (a .0, all-map Good f xs (a .1))

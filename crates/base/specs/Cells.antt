@@ -4,10 +4,10 @@ use mathlib.Core.List.{List, map}
 use mathlib.Core.Logic.{⊎-elim}
 use Prim.Native.Nat.{ℕ, zero, suc, _+_, _*_, _-_, _≤_, _<_}
 use native.Mathlib.Numerals.{add-one}
-use native.Mathlib.Nat.{mul-le-mul, suc-mul}
+use native.Mathlib.Nat.{add-zero, mul-le-mul, suc-mul}
 use native.Mathlib.Omega.{arith}
 use lib.ListN.{length, getD, set, length-set, length-map, List·getD-map}
-use lib.Seq.{getD-set-same, getD-set-other, ext-getD}
+use lib.Seq.{getD-set-same, getD-set-other, set-comm, ext-getD}
 use Rattle.base.specs.Pick.{lt-or-le}
 
 unfoldable pub laid : {A : Type 0} → (ℕ → A) → List A → ℕ → ℕ → List A
@@ -107,3 +107,21 @@ laid-map f d l z h =
     (λ i m.
     laid-in (λ (j : ℕ). f (getD l j d)) z 0 (length l) i (f d) (omega arith) (omega (arith, laid-length (λ (j : ℕ). f (getD l j d)) z 0 (length l))) (omega arith)
     ∙ sym (List·getD-map f l i d))
+
+-- ---- the same from the end
+
+pub laid-front : {A : Type 0} (f : ℕ → A) (l : List A) (a k : ℕ) → laid f l a (k + 1) ≡ set (laid f l (a + 1) k) a (f a)
+unfolding laid
+laid-front f l a zero = rw (add-zero a)
+laid-front f l a (suc k) =
+    let e : suc k + 1 ≡ suc (k + 1) = omega arith in
+    let z : a + (k + 1) ≡ a + 1 + k = omega arith in
+    rw (e, laid-front f l a k, z) (set-comm (laid f l (a + 1) k) a (a + 1 + k) (f a) (f (a + 1 + k)) (λ i. omega arith))
+
+-- one turn of a loop that lays the places below n from the last on
+pub laid-back : {A : Type 0} (f : ℕ → A) (l out : List A) (n p : ℕ) (v : A) → p < n → out ≡ laid f l (p + 1) (n - (p + 1)) → v ≡ f p → set out p v ≡ laid f l p (n - p)
+laid-back f l out n p v h e w = let z : n - p ≡ n - (p + 1) + 1 = omega arith in rw (e, w, z) (sym (laid-front f l p (n - (p + 1))))
+
+pub laid-empty : {A : Type 0} (f : ℕ → A) (l : List A) (a n : ℕ) → l ≡ laid f l a (n - n)
+unfolding laid
+laid-empty f l a n = let z : n - n ≡ 0 = omega arith in rw z

@@ -12,3 +12,4 @@ pub mod Lists
 pub mod Tests
 pub mod Sums
 pub mod Refusals
+pub mod Upto

@@ -1,9 +1,9 @@
 -- Plain laws of lists: padding to a length, and lists of which the first elements agree.
 use mathlib.Core.Path.{_≡_, refl, ap, sym, _∙_}
-use mathlib.Core.List.{List, [], _∷_, _++_, map, append-assoc}
+use mathlib.Core.List.{List, [], _∷_, _++_, map, map-append, append-assoc}
 use Prim.Native.Nat.{ℕ, zero, suc, _+_, _-_, _≤_, _<_}
 use native.Mathlib.Omega.{arith}
-use lib.ListN.{length, getD, set, take, drop, replicate, take-append-drop, length-append, length-replicate, length-set, List·getD-append}
+use lib.ListN.{length, getD, set, take, drop, replicate, take-append-drop, length-append, length-replicate, length-set, length-map, List·getD-append}
 use lib.Seq.{take-at, drop-at, drop-drop, set-append-left, set-append-seam}
 
 -- a list of m elements that begins with l and goes on with x
@@ -30,6 +30,16 @@ pub map-ext : {A B : Type 0} (f g : A → B) (d : A) (l : List A) → ((b : ℕ)
 map-ext f g d [] h = refl
 map-ext f g d (x ∷ xs) h = (λ i. h 0 (omega arith) i ∷ map-ext f g d xs (λ b l. h (suc b) (omega arith)) i)
 
+-- a function of the first n elements
+pub take-map : {A B : Type 0} (f : A → B) (n : ℕ) (l : List A) → take n (map f l) ≡ map f (take n l)
+take-map f zero l = refl
+take-map f (suc n) [] = refl
+take-map {A} {B} f (suc n) (x ∷ xs) = ap (λ (z : List B). f x ∷ z) (take-map f n xs)
+
+map-replicate : {A B : Type 0} (f : A → B) (m : ℕ) (x : A) → map f (replicate m x) ≡ replicate m (f x)
+map-replicate f zero x = refl
+map-replicate {A} {B} f (suc m) x = ap (λ (z : List B). f x ∷ z) (map-replicate f m x)
+
 -- ---- a list in an array of m elements
 
 pub padded-length : {A : Type 0} (m : ℕ) (x : A) (w : List A) → length w ≤ m → length (padded m x w) ≡ m
@@ -52,3 +62,7 @@ pub padded-push : {A : Type 0} (m : ℕ) (x v : A) (w : List A) → length w < m
 padded-push m x v w h =
     let e : m - length w ≡ suc (m - (length w + 1)) = omega arith in
     rw (e, set-append-seam w x (replicate (m - (length w + 1)) x) v, length-append w (v ∷ [])) (sym (append-assoc w (v ∷ []) (replicate (m - (length w + 1)) x)))
+
+-- a function of each
+pub padded-map : {A B : Type 0} (f : A → B) (m : ℕ) (x : A) (w : List A) → map f (padded m x w) ≡ padded m (f x) (map f w)
+padded-map f m x w = map-append f w (replicate (m - length w) x) ∙ rw (map-replicate f (m - length w) x, length-map w f)

@@ -1,25 +1,17 @@
--- The logarithm by halving, and the number of a run's suffixes by its two cases.
+-- The logarithm by the zeros above a number's highest one, and the number of a run's suffixes by its two cases.
 use mathlib.Core.Path.{_≡_, refl, ap, sym, _∙_}
 use Prim.Native.Nat.{ℕ, zero, suc, _+_, _*_, _-_, _/_, _^_, _≤_, _<_}
 use native.Mathlib.Numerals.{add-one}
 use native.Mathlib.Omega.{arith}
+use lib.Count.{leadingZeros, leading-top}
 use borrow.Author.Tests.{lt-ltb, le-ltb}
 use Rattle.base.specs.Powers.{pow-next, exp-lt}
 use Rattle.h265.specs.Strings.{flog, flogAux, suffixes}
 use Rattle.h265.specs.StringLaws.{flog-is, flog-low, flog-high}
 
-pub flog-turn : (m : ℕ) → 2 ≤ m → flog m ≡ flog (m / 2) + 1
-flog-turn m h =
-    let lo = flog-low (m / 2) (omega arith) in
-    let hi = flog-high (m / 2) (omega arith) in
-    let e : 2 ^ (flog (m / 2) + 1) ≡ 2 ^ flog (m / 2) + 2 ^ flog (m / 2) = pow-next (flog (m / 2)) in
-    rw (add-one (flog (m / 2))) (flog-is (suc (flog (m / 2))) m (omega arith) (omega arith))
-
-pub flog-small : (m : ℕ) → m < 2 → flog m ≡ 0
-unfolding flog flogAux
-flog-small zero h = refl
-flog-small (suc zero) h = refl
-flog-small (suc (suc m)) h = absurd (omega arith)
+-- with the zeros above its highest one it makes a word
+pub flog-leading : (w n : ℕ) → 1 ≤ n → n < 2 ^ w → leadingZeros w n + flog n + 1 ≡ w
+flog-leading w n h g = let t = leading-top w n h g in omega (arith, t .1, flog-is (t .0) n (t .2) (t .3))
 
 pub flog-most : (n k : ℕ) → 1 ≤ n → n < 2 ^ k → flog n < k
 flog-most n k h g = exp-lt k (flog n) (omega (arith, flog-low n h))

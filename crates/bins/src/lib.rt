@@ -28,13 +28,10 @@ pub fn flog(n: u32) -> u32
     requires { ⌜ n < 1073741824 ⌝ }
     ensures { λ r. ⌜ r ≡ S.flog n ⌝ }
 {
-    let mut k: u32 = 0;
-    let mut m = n;
-    while 2 <= m {
-        m = m / 2;
-        k += 1;
+    if n == 0 {
+        return 0;
     }
-    k
+    31 - u32::leading_zeros(n)
 }
 
 // The values that a run's suffix may have, p = 2^(prefix - 1).

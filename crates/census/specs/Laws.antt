@@ -9,6 +9,8 @@ use native.Mathlib.Numerals.{add-one}
 use borrow.Author.Tests.{eq-eqb, ne-eqb, lt-ltb, le-ltb}
 use lib.ListN.{length, getD, set, length-set, length-append, List·getD-append}
 use lib.Seq.{getD-set-same, getD-set-other, getD-append-seam}
+use Rattle.base.specs.Alls.{all-append}
+use Rattle.base.specs.Codes.{All}
 use Rattle.base.specs.Pick.{lt-or-le, eq-or-ne}
 use Rattle.colors.specs.Place.{placeOf, place-le, place-at, place-other, Distinct, distinct-more, seen, seen-old, seen-new, seen-length, seen-has, seen-keeps}
 use Rattle.census.specs.Census.{metBy, itself, met, tally, counts, total, occurs}
@@ -149,6 +151,23 @@ through-le f xs (suc i) =
     ⊎-elim (λ (h : placeOf x (met xs i) < length (met xs i)). rw (seen-old (met xs i) x h, seen-old (metBy f xs i) (f x) (through f xs i x h)) (through-le f xs i))
     (λ (h : length (met xs i) ≤ placeOf x (met xs i)). rw (seen-new (met xs i) x h, length-append) (omega (arith, through-le f xs i, seen-length (metBy f xs i) (f x) .1)))
     (lt-or-le (placeOf x (met xs i)) (length (met xs i)))
+
+-- where there are samples a colour is met
+pub met-some : (f : ℕ → ℕ) (xs : List ℕ) (n : ℕ) → 1 ≤ n → 1 ≤ length (metBy f xs n)
+unfolding metBy
+met-some f xs zero h = absurd (omega arith)
+met-some f xs (suc i) h = omega (arith, seen-has (metBy f xs i) (f (getD xs i 0)))
+
+-- what holds of every sample holds of every colour met
+pub met-all : (Good : ℕ → Type 0) (f : ℕ → ℕ) (xs : List ℕ) (n : ℕ) → ((i : ℕ) → i < n → Good (f (getD xs i 0))) → All Good (metBy f xs n)
+unfolding metBy
+met-all Good f xs zero h = tt
+met-all Good f xs (suc i) h =
+    let k = f (getD xs i 0) in
+    let ms = metBy f xs i in
+    let a = met-all Good f xs i (λ j l. h j (omega arith)) in
+    ⊎-elim (λ (l : placeOf k ms < length ms). rw (seen-old ms k l) a) (λ (l : length ms ≤ placeOf k ms). rw (seen-new ms k l) (all-append Good ms (k ∷ []) a (h i (omega arith), tt)))
+    (lt-or-le (placeOf k ms) (length ms))
 
 -- only the first n samples count
 pub met-ext : (f : ℕ → ℕ) (xs ys : List ℕ) (n : ℕ) → ((i : ℕ) → i < n → getD xs i 0 ≡ getD ys i 0) → metBy f xs n ≡ metBy f ys n

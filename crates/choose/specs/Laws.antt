@@ -8,6 +8,8 @@ use native.Mathlib.Omega.{arith}
 use borrow.Author.Tests.{lt-ltb, le-ltb}
 use lib.ListN.{length, take, drop, length-append, length-drop}
 use lib.Seq.{length-take-le}
+use Rattle.base.specs.Alls.{all-append, all-take, all-drop}
+use Rattle.base.specs.Codes.{All}
 use Rattle.base.specs.Pick.{lt-or-le}
 use Rattle.h265.specs.Reuse.{trues, flagged}
 use Rattle.reps.specs.Reps.{hitOf, reps}
@@ -69,3 +71,16 @@ shares tol es free = omega (arith, length-drop (trues (chosen tol es free .flags
 -- at most the limit
 pub palette-le : (tol limit : ℕ) (es cs : List ℕ) (n : ℕ) → length (chosen tol es (reps tol limit cs n) .palette) ≤ limit
 palette-le tol limit es cs n = rw (palette-size tol es (reps tol limit cs n)) (reps-le tol limit cs n)
+
+-- what holds of every predictor entry and of every representative holds of every entry
+pub chosen-all : (Good : ℕ → Type 0) (tol : ℕ) (es free : List ℕ) → All Good es → All Good free → All Good (chosen tol es free .palette)
+unfolding chosen
+chosen-all Good tol [] free a b = b
+chosen-all Good tol (e ∷ es) free a b =
+    let r = hitOf tol e free in
+    ⊎-elim
+    (λ (h : r < length free).
+    rw (chosen-hit tol e es free h)
+    (a .0, chosen-all Good tol es (without r free) (a .1) (all-append Good (take r free) (drop (suc r) free) (all-take Good r free b) (all-drop Good (suc r) free b))))
+    (λ (h : length free ≤ r). rw (chosen-miss tol e es free h) (chosen-all Good tol es free (a .1) b))
+    (lt-or-le r (length free))

@@ -1,7 +1,7 @@
 -- Both laws of the reuse runs.
 use mathlib.Core.Path.{_≡_, refl, ap, sym, _∙_}
 use mathlib.Core.Bool.{Bool, true, false}
-use mathlib.Core.List.{List, [], _∷_, _++_}
+use mathlib.Core.List.{List, [], _∷_, _++_, map}
 use Prim.Native.Nat.{ℕ, zero, suc, _+_, _-_, _^_, _≤_, _<_}
 use native.Mathlib.Omega.{arith}
 use lib.Dec.{leb, eqb}
@@ -16,7 +16,7 @@ use Rattle.base.specs.Stands.{Stands, stands-none, none-stands, join, split, Co
 use Rattle.h265.specs.Strings.{bit, egk}
 use Rattle.h265.specs.Parse.{egkAt}
 use Rattle.h265.specs.EgkLaws.{egk-code}
-use Rattle.h265.specs.Reuse.{trues, lead, codeOf, gapOf, reuseBins, reuseAt}
+use Rattle.h265.specs.Reuse.{trues, flagged, lead, codeOf, gapOf, reuseBins, reuseAt}
 
 -- ---- gaps
 
@@ -293,3 +293,12 @@ trues-at fs count i h o = rw (read fs count i false h o) (trues-cons (getD fs i 
 pub trues-end : (fs : List Bool) (count i : ℕ) → count ≤ i → count ≤ length fs → trues (drop i (take count fs)) ≡ 0
 unfolding trues
 trues-end fs count i h o = rw (end fs count i h o)
+
+-- ---- the entries that flags mark
+
+pub flagged-map : {A B : Type 0} (f : A → B) (fs : List Bool) (es : List A) → flagged fs (map f es) ≡ map f (flagged fs es)
+unfolding flagged
+flagged-map f [] es = refl
+flagged-map f (b ∷ fs) [] = refl
+flagged-map {A} {B} f (true ∷ fs) (e ∷ es) = ap (λ (z : List B). f e ∷ z) (flagged-map f fs es)
+flagged-map f (false ∷ fs) (e ∷ es) = flagged-map f fs es

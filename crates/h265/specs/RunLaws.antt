@@ -18,7 +18,7 @@ use Rattle.h265.specs.Parse.{tbAt, unaryAt, suffixAt, runAt}
 use Rattle.h265.specs.UnaryLaws.{unary-code}
 use Rattle.h265.specs.TbLaws.{tb-code}
 
-suffixes-one : (longest k : ℕ) → 2 ^ k ≤ longest → 1 ≤ suffixes longest k
+pub suffixes-one : (longest k : ℕ) → 2 ^ k ≤ longest → 1 ≤ suffixes longest k
 unfolding suffixes
 suffixes-one longest k h = go (ltb longest (2 * 2 ^ k))
   where

@@ -5,13 +5,38 @@ use mathlib.Core.List.{[], _∷_}
 use Prim.Native.Nat.{ℕ, _≤_}
 use native.Mathlib.Omega.{arith}
 use borrow.Author.Tests.{eqb-true}
-use lib.Dec.{T, eqb}
+use lib.Dec.{T, eqb, leb}
 use lib.IntN.{ℤ, pos, negsuc}
 use lib.Signed.{leZ, _≤ℤ_}
 use Rattle.base.specs.Pick.{pick, either, true-false}
-use Rattle.base.specs.Tests.{every, any, both}
+use Rattle.base.specs.Tests.{every, any, both, pick-test}
 use Rattle.model.specs.declared.PaletteConfig.{PaletteConfig}
 use Rattle.model.specs.Domain.{formatIn, depthIn, qpIn, configIn, most}
+
+-- formats are 0 to 3
+pub format-most : (components format : ℕ) → formatIn components format ≡ true → leb format 3 ≡ true
+unfolding formatIn
+format-most components format h =
+    let a = every (leb 1 format ∷ leb format 3 ∷ eqb components 3 ∷ []) in
+    either (eqb format 0)
+    (λ t. rw (eqb-true format 0 t))
+    (λ t.
+    let b : a ≡ true = rw (t, pick-test a) at h in
+    both (leb format 3) _ (both (leb 1 format) _ b .1) .0)
+
+-- depths are 8 to 12
+pub depth-bounds : (d : ℕ) → depthIn d ≡ true → (8 ≤ d) × (d ≤ 12)
+unfolding depthIn
+depth-bounds d h =
+    either (eqb d 8)
+    (λ t. rw (eqb-true d 8 t) (omega arith, omega arith))
+    (λ t.
+    either (eqb d 10)
+    (λ u. rw (eqb-true d 10 u) (omega arith, omega arith))
+    (λ u.
+    either (eqb d 12)
+    (λ v. rw (eqb-true d 12 v) (omega arith, omega arith))
+    (λ v. absurd (true-false (sym (rw (t, u, v) at h))))))
 
 -- samples are of at most 12 bits
 pub depth-most : (d : ℕ) → depthIn d ≡ true → most d ≤ 4095

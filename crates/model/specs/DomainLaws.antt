@@ -12,7 +12,7 @@ use Rattle.base.specs.Pick.{lt-or-le}
 use Rattle.base.specs.Tests.{every, both, ands, ands-every}
 use Rattle.model.specs.declared.Color.{Color}
 use Rattle.model.specs.declared.SourceBlock.{SourceBlock}
-use Rattle.model.specs.Domain.{sizeIn, sideIn, sourceIn, most, mostChroma, colorIn}
+use Rattle.model.specs.Domain.{sizeIn, evenIn, sideIn, sourceIn, most, mostChroma, colorIn}
 
 -- a number of 16 bits is held to a bound as it is to the bound's 16-bit form
 pub leb-capped : (x m : ℕ) → x ≤ 65535 → leb x (min 65535 m) ≡ leb x m
@@ -76,3 +76,16 @@ source-bounds format g e =
       across = leb-true _ _ (x .0);
       along = leb-true _ _ (y .0);
     }
+
+-- the block's size, and its evenness
+pub source-size : (format : ℕ) (g : SourceBlock) → sourceIn format g ≡ true → every (sizeIn (g .size) ∷ evenIn format (g .size) ∷ []) ≡ true
+unfolding sourceIn
+source-size format g e =
+    let s = both (sizeIn (g .size)) _ e in
+    let w = both (sideIn (g .yw)) _ (s .1) in
+    let h = both (sideIn (g .yh)) _ (w .1) in
+    let cw = both (leb (g .cw) 65535) _ (h .1) in
+    let ch = both (leb (g .chh) 65535) _ (cw .1) in
+    let x = both (leb (g .x0) 65535) _ (ch .1) in
+    let y = both (leb (g .y0) 65535) _ (x .1) in
+    rw (s .0, both (evenIn format (g .size)) _ (y .1) .0)

@@ -3,3 +3,4 @@ pub mod DomainLaws
 pub mod Whole
 pub mod WholeLaws
 pub mod ConfigLaws
+pub mod Blank

@@ -10,6 +10,8 @@ use borrow.Author.Tests.{lt-ltb, le-ltb, le-leb, lt-leb, leb-true, leb-false}
 use lib.Dec.{ltb, leb}
 use lib.ListN.{length, getD, length-append, List·getD-append}
 use lib.Seq.{getD-append-seam}
+use Rattle.base.specs.Alls.{all-append}
+use Rattle.base.specs.Codes.{All}
 use Rattle.base.specs.Pick.{either, true-false, lt-or-le}
 use Rattle.quant.specs.Quant.{gap, yOf, uOf, vOf, dist}
 use Rattle.reps.specs.Reps.{within, hitOf, joined, reps, Near}
@@ -116,6 +118,22 @@ module _ (tol limit : ℕ) (rs : List ℕ) (c : ℕ) where
       (λ (l : limit ≤ length rs). rw (joined-full l) h)
       (lt-or-le (length rs) limit)
 
+  joined-some : 1 ≤ limit → 1 ≤ length (joined tol limit rs c)
+  joined-some h =
+      ⊎-elim
+      (λ (l : length rs < limit).
+      ⊎-elim (λ (k : hitOf tol c rs < length rs). rw (joined-near k) (omega arith)) (λ (k : length rs ≤ hitOf tol c rs). rw (joined-new l k, length-append) (omega arith)) (lt-or-le (hitOf tol c rs) (length rs)))
+      (λ (l : limit ≤ length rs). rw (joined-full l) (omega arith))
+      (lt-or-le (length rs) limit)
+
+  joined-all : (Good : ℕ → Type 0) → All Good rs → Good c → All Good (joined tol limit rs c)
+  joined-all Good a g =
+      ⊎-elim
+      (λ (l : length rs < limit).
+      ⊎-elim (λ (k : hitOf tol c rs < length rs). rw (joined-near k) a) (λ (k : length rs ≤ hitOf tol c rs). rw (joined-new l k) (all-append Good rs (c ∷ []) a (g, tt))) (lt-or-le (hitOf tol c rs) (length rs)))
+      (λ (l : limit ≤ length rs). rw (joined-full l) a)
+      (lt-or-le (length rs) limit)
+
   -- any two are apart
   joined-apart : ((a b : ℕ) → a < b → b < length rs → within tol (getD rs b 0) (getD rs a 0) ≡ false) → (a b : ℕ) → a < b → b < length (joined tol limit rs c) → within tol (getD (joined tol limit rs c) b 0) (getD (joined tol limit rs c) a 0) ≡ false
   joined-apart w =
@@ -153,6 +171,18 @@ module _ (tol limit : ℕ) (cs : List ℕ) where
   unfolding reps
   reps-apart zero a b h l = absurd (omega arith)
   reps-apart (suc i) a b h l = joined-apart tol limit (reps tol limit cs i) (getD cs i 0) (reps-apart i) a b h l
+
+  -- the first colour stays
+  pub reps-some : (n : ℕ) → 1 ≤ n → 1 ≤ limit → 1 ≤ length (reps tol limit cs n)
+  unfolding reps
+  reps-some zero h l = absurd (omega arith)
+  reps-some (suc i) h l = joined-some tol limit (reps tol limit cs i) (getD cs i 0) l
+
+  -- what holds of every colour holds of every representative
+  pub reps-all : (Good : ℕ → Type 0) (n : ℕ) → ((i : ℕ) → i < n → Good (getD cs i 0)) → All Good (reps tol limit cs n)
+  unfolding reps
+  reps-all Good zero h = tt
+  reps-all Good (suc i) h = joined-all tol limit (reps tol limit cs i) (getD cs i 0) Good (reps-all Good i (λ j l. h j (omega arith))) (h i (omega arith))
 
 -- only the first n colours matter
 pub reps-ext : (tol limit : ℕ) (cs ds : List ℕ) (n : ℕ) → ((k : ℕ) → k < n → getD cs k 0 ≡ getD ds k 0) → reps tol limit cs n ≡ reps tol limit ds n
