@@ -1,0 +1,1 @@
+// Theorems on the blocks that analysis makes and assignment accepts.
