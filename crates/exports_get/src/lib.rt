@@ -9,9 +9,9 @@ ghost use Rattle.exports_get.specs.Laid.{three, binOut, bitsOut, tbOut, 
 use bins::Bin;
 use bins::Number;
 use get::bin_at;
-use get::bits_at;
-use get::tb_at;
-use getgolomb::count_at;
+use getbits::bits_at;
+use getbits::tb_at;
+use getcount::count_at;
 use getgolomb::egk_at;
 use getgolomb::held_egk_at;
 use getreuse::reuse_at;

@@ -6,7 +6,7 @@ ghost use Rattle.base.specs.Laid.{Laid};
 ghost use Rattle.exports_put.specs.Bins.{near, bitsOut, tbOut, egkOut, countOut, runOut, reuseOut};
 use put::put_bits;
 use put::put_tb;
-use putgolomb::put_count;
+use putcount::put_count;
 use putgolomb::put_egk;
 use putreuse::put_reuse;
 use putrun::put_run;

@@ -11,7 +11,7 @@ use bins::pow2;
 use bins::run_class;
 use bins::suffixes;
 use get::bin_at;
-use get::tb_at;
+use getbits::tb_at;
 
 // A run's prefix: at most `most` ones.
 fn prefix_at(list: &[u8], at: usize, most: u32, above: bool, sent: u32) -> Number

@@ -8,7 +8,7 @@ use Rattle.exports_get.proofs.velomitra_bits_at.Tie as tie
 use Rattle.exports_get.proofs.velomitra_bits_at.Reads as reads
 use Rattle.exports_get.proofs.velomitra_bits_at.Lts as lts
 use Rattle.exports_get.proofs.lay_number.Reads as lay-number-reads
-use Rattle.get.proofs.bits_at.Reads as bits-at-reads
+use Rattle.getbits.proofs.bits_at.Reads as bits-at-reads
 
 returns : tie.Need-returns
 unfolding bitsOut

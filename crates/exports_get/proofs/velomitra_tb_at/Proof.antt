@@ -7,7 +7,7 @@ use Rattle.exports_get.proofs.velomitra_tb_at.Tie as tie
 use Rattle.exports_get.proofs.velomitra_tb_at.Reads as reads
 use Rattle.exports_get.proofs.velomitra_tb_at.Lts as lts
 use Rattle.exports_get.proofs.lay_number.Reads as lay-number-reads
-use Rattle.get.proofs.tb_at.Reads as tb-at-reads
+use Rattle.getbits.proofs.tb_at.Reads as tb-at-reads
 
 returns : tie.Need-returns
 unfolding tbOut

@@ -7,7 +7,7 @@ use Rattle.exports_put.proofs.velomitra_put_count.Statement.{statement}
 use Rattle.exports_put.proofs.velomitra_put_count.Tie as tie
 use Rattle.exports_put.proofs.velomitra_put_count.Reads as reads
 use Rattle.exports_put.proofs.velomitra_put_count.Lts as lts
-use Rattle.putgolomb.proofs.put_count.Reads as put-count-reads
+use Rattle.putcount.proofs.put_count.Reads as put-count-reads
 
 returns : tie.Need-returns
 returns c = rw (lt-ltb _ _ (c .if1 .taken)) (laid-none _ _)

@@ -5,7 +5,7 @@ use Rattle.getgolomb.proofs.egk_at.Statement.{statement}
 use Rattle.getgolomb.proofs.egk_at.Tie as tie
 use Rattle.getgolomb.proofs.egk_at.Reads as reads
 use Rattle.getgolomb.proofs.egk_at.Lts as lts
-use Rattle.getgolomb.proofs.ones_at.Reads as ones-at-reads
+use Rattle.getones.proofs.ones_at.Reads as ones-at-reads
 
 ones-at-requires : tie.Need-ones-at-requires
 ones-at-requires c κs = search needs

@@ -16,7 +16,7 @@ use Rattle.getrun.proofs.suffix_at.Reads as reads
 use Rattle.getrun.proofs.suffix_at.Lts as lts
 use Rattle.bins.proofs.pow2.Reads as pow2-reads
 use Rattle.bins.proofs.suffixes.Reads as suffixes-reads
-use Rattle.get.proofs.tb_at.Reads as tb-at-reads
+use Rattle.getbits.proofs.tb_at.Reads as tb-at-reads
 
 returns : tie.Need-returns
 returns c = suffix-none _ _ _ _ (c .if1 .taken)
