@@ -1,17 +1,16 @@
-// Smoothing an index map: the core, over lent arrays along the scan.
+// Smoothing an index map: what one cell and one run cost, over lent arrays along the scan.
 ghost use mathlib.Core.Path.{_≡_};
 ghost use mathlib.Core.Bool.{Bool, true, false};
-ghost use Prim.Native.Nat.{ℕ, _+_, _*_, _-_, _<_, _≤_};
+ghost use Prim.Native.Nat.{ℕ, _+_, _<_, _≤_};
 ghost use lib.Ieee.{binary32, sub, ofInt};
 ghost use lib.IntN.{pos};
 ghost use lib.ListN.{length, getD};
-ghost use Rattle.base.specs.Cells.{laid};
 ghost use Rattle.base.specs.Tests.{upTo};
 ghost use Rattle.h265.specs.Scan as S;
-ghost use Rattle.quant.specs.Quant.{dist};
+ghost use Rattle.figure.specs.Figure.{chromaIn};
 ghost use Rattle.smooth.specs.Smooth as D;
 
-// A component, below 2^16, as f32.
+// A component as f32.
 fn as_f32(x: u64) -> f32
     requires { ⌜ x < 65536 ⌝ }
     ensures { λ r. ⌜ r ≡ ofInt binary32 (pos x) ⌝ }
@@ -44,7 +43,7 @@ fn entry_error(chroma: bool, entry: u64, sample: u64) -> f32
 // Whether a chroma sample is written at place i.
 fn chroma_at(format: u8, size: usize, i: usize) -> bool
     requires { ⌜ 1 ≤ size ⌝ }
-    ensures { λ r. ⌜ r ≡ D.chromaAt format size i ⌝ }
+    ensures { λ r. ⌜ r ≡ chromaIn format false (S.colOf size i) (S.rowOf size i) ⌝ }
 {
     if format == 0 {
         return false;
@@ -53,17 +52,24 @@ fn chroma_at(format: u8, size: usize, i: usize) -> bool
         return true;
     }
     let p = scan::scan_pos(i, size);
-    if p.col % 2 == 0 {
-        if format == 2 {
-            return true;
-        }
-        return p.row % 2 == 0;
+    if format == 2 {
+        return p.col % 2 == 0;
     }
-    false
+    (p.col % 2 == 0) & (p.row % 2 == 0)
 }
 
-// Entry v; 0 past the array.
-fn entry(palette: &[u64; 64], v: u8) -> u64
+// What recolouring place i from one entry to another adds.
+fn delta(cells: &[u64; 1024], format: u8, size: usize, from: u64, to: u64, i: usize) -> f32
+    requires { ⌜ (1 ≤ size) × (i < 1024) ⌝ }
+    ensures { λ r. ⌜ r ≡ D.delta format size (now (cells .entry)) from to i ⌝ }
+{
+    let chroma = chroma_at(format, size, i);
+    let sample = cells[i];
+    entry_error(chroma, to, sample) - entry_error(chroma, from, sample)
+}
+
+// The colour of an index; 0 past the palette.
+pub fn colour(palette: &[u64; 64], v: u8) -> u64
     requires { ⌜ length (now palette) ≡ 64 ⌝ }
     ensures { λ r. ⌜ r ≡ getD (now (palette .entry)) v 0 ⌝ }
 {
@@ -74,76 +80,68 @@ fn entry(palette: &[u64; 64], v: u8) -> u64
     0
 }
 
-// What recolouring a sample adds.
-fn delta(chroma: bool, sample: u64, from: u64, to: u64) -> f32
-    ensures { λ r. ⌜ r ≡ sub binary32 (D.entryError chroma to sample) (D.entryError chroma from sample) ⌝ }
-{
-    entry_error(chroma, to, sample) - entry_error(chroma, from, sample)
-}
-
-// The end of the run of equal indices that starts at start.
-fn run_end(indices: &[u8; 1024], n: usize, start: usize) -> usize
-    requires { ⌜ (start < n) × (n ≤ 1024) × (length (now indices) ≡ 1024) ⌝ }
-    ensures { λ r. ⌜ (r ≡ start + D.runLength n (now (indices .entry)) start) × (start < r) × (r ≤ n) ⌝ }
+// The length of the run of equal indices that starts at start.
+pub fn run_length(indices: &[u8; 1024], n: usize, start: usize) -> usize
+    requires { ⌜ (start < n) × (n ≤ 1024) ⌝ }
+    ensures { λ r. ⌜ (r ≡ D.runLength n (now (indices .entry)) start) × (1 ≤ r) × (start + r ≤ n) ⌝ }
 {
     let v = indices[start];
     let mut end = start + 1;
     while end < n {
         if indices[end] != v {
-            return end;
+            return end - start;
         }
         end += 1;
     }
-    end
+    end - start
 }
 
-// Whether every sample of a run is within tolerance of an entry.
-fn run_fits(cells: &[u64; 1024], e: u64, tol: u64, start: usize, end: usize) -> bool
-    requires { ⌜ (start ≤ end) × (end ≤ 1024) × (length (now cells) ≡ 1024) ⌝ }
-    ensures { λ r. ⌜ r ≡ upTo (end - start) (D.near (now (cells .entry)) e tol start) ⌝ }
+// Whether every sample of a run fits an entry.
+pub fn run_fits(cells: &[u64; 1024], tol: u64, entry: u64, start: usize, len: usize) -> bool
+    requires { ⌜ start + len ≤ 1024 ⌝ }
+    ensures { λ r. ⌜ r ≡ upTo len (λ j. D.fits (now (cells .entry)) tol entry (start + j)) ⌝ }
 {
-    let mut i = start;
-    while i < end {
-        if tol < quant::distance(e, cells[i]) {
+    let mut j: usize = 0;
+    while j < len {
+        if tol < quant::distance(entry, cells[start + j]) {
             return false;
         }
-        i += 1;
+        j += 1;
     }
     true
 }
 
 // What recolouring a run from one entry to another adds.
-fn run_cost(
+pub fn run_cost(
     cells: &[u64; 1024],
     format: u8,
     size: usize,
     from: u64,
     to: u64,
     start: usize,
-    end: usize,
+    len: usize,
 ) -> f32
-    requires { ⌜ (1 ≤ size) × (start ≤ end) × (end ≤ 1024) × (length (now cells) ≡ 1024) ⌝ }
-    ensures { λ r. ⌜ r ≡ D.sumFrom (D.deltaOf format size (now (cells .entry)) from to) start (end - start) ⌝ }
+    requires { ⌜ (1 ≤ size) × (start + len ≤ 1024) ⌝ }
+    ensures { λ r. ⌜ r ≡ D.sumFrom (D.delta format size (now (cells .entry)) from to) start len ⌝ }
 {
     let mut sum: f32 = -0.0;
-    let mut i = start;
-    while i < end {
-        let d = delta(chroma_at(format, size, i), cells[i], from, to);
-        sum = sum + d;
-        i += 1;
+    let mut j: usize = 0;
+    while j < len {
+        sum = sum + delta(cells, format, size, from, to, start + j);
+        j += 1;
     }
     sum
 }
 
 // The index above place i.
-fn above(indices: &[u8; 1024], size: usize, i: usize) -> u8
-    requires { ⌜ (1 ≤ size) × (size ≤ 32) × (size ≤ i) × (i < 1024) × (length (now indices) ≡ 1024) ⌝ }
+pub fn above(indices: &[u8; 1024], size: usize, i: usize) -> u8
+    requires { ⌜ (1 ≤ size) × (size ≤ i) × (i < 1024) ⌝ }
     ensures { λ r. ⌜ r ≡ S.aboveAt size (now (indices .entry)) i ⌝ }
 {
     indices[scan::place_above(i, size)]
 }
 
-// Whether the index above place i is no escape, and is value itself or within tolerance.
+// Whether the index above place i is no escape, and is the run's value or fits.
 fn above_fits(
     cells: &[u64; 1024],
     palette: &[u64; 64],
@@ -154,9 +152,8 @@ fn above_fits(
     value: u8,
     i: usize,
 ) -> bool
-    requires { ⌜ (1 ≤ size) × (size ≤ 32) × (size ≤ i) × (i < 1024) ⌝ }
-    requires { ⌜ (length (now cells) ≡ 1024) × (length (now palette) ≡ 64) × (length (now indices) ≡ 1024) ⌝ }
-    ensures { λ r. ⌜ r ≡ D.aboveIn size escape tol (now (palette .entry)) (now (cells .entry)) (now (indices .entry)) value i ⌝ }
+    requires { ⌜ (1 ≤ size) × (size ≤ i) × (i < 1024) × (length (now palette) ≡ 64) ⌝ }
+    ensures { λ r. ⌜ r ≡ D.aboveFits size escape tol (now (palette .entry)) (now (cells .entry)) (now (indices .entry)) value i ⌝ }
 {
     let a = above(indices, size, i);
     if a == escape {
@@ -165,5 +162,55 @@ fn above_fits(
     if a == value {
         return true;
     }
-    quant::distance(entry(palette, a), cells[i]) <= tol
+    quant::distance(colour(palette, a), cells[i]) <= tol
+}
+
+// Whether every index above a run fits.
+pub fn run_above_fits(
+    cells: &[u64; 1024],
+    palette: &[u64; 64],
+    indices: &[u8; 1024],
+    size: usize,
+    escape: u8,
+    tol: u64,
+    value: u8,
+    start: usize,
+    len: usize,
+) -> bool
+    requires { ⌜ (1 ≤ size) × (size ≤ start) × (start + len ≤ 1024) × (length (now palette) ≡ 64) ⌝ }
+    ensures { λ r. ⌜ r ≡ upTo len (λ j. D.aboveFits size escape tol (now (palette .entry)) (now (cells .entry)) (now (indices .entry)) value (start + j)) ⌝ }
+{
+    let mut j: usize = 0;
+    while j < len {
+        if above_fits(cells, palette, indices, size, escape, tol, value, start + j) {
+            j += 1;
+        } else {
+            return false;
+        }
+    }
+    true
+}
+
+// What copying a run from above adds.
+pub fn run_above_cost(
+    cells: &[u64; 1024],
+    palette: &[u64; 64],
+    indices: &[u8; 1024],
+    format: u8,
+    size: usize,
+    from: u64,
+    start: usize,
+    len: usize,
+) -> f32
+    requires { ⌜ (1 ≤ size) × (size ≤ start) × (start + len ≤ 1024) × (length (now palette) ≡ 64) ⌝ }
+    ensures { λ r. ⌜ r ≡ D.sumFrom (λ i. D.delta format size (now (cells .entry)) from (getD (now (palette .entry)) (S.aboveAt size (now (indices .entry)) i) 0) i) start len ⌝ }
+{
+    let mut sum: f32 = -0.0;
+    let mut j: usize = 0;
+    while j < len {
+        let to = colour(palette, above(indices, size, start + j));
+        sum = sum + delta(cells, format, size, from, to, start + j);
+        j += 1;
+    }
+    sum
 }
