@@ -1,11 +1,10 @@
-// Smoothing an index map: what one cell and one run cost, over lent arrays along the scan.
+// Smoothing an index map: what recolouring one cell costs, over lent arrays along the scan.
 ghost use mathlib.Core.Path.{_≡_};
 ghost use mathlib.Core.Bool.{Bool, true, false};
-ghost use Prim.Native.Nat.{ℕ, _+_, _<_, _≤_};
-ghost use lib.Ieee.{binary32, sub, ofInt};
+ghost use Prim.Native.Nat.{ℕ, _<_, _≤_};
+ghost use lib.Ieee.{binary32, ofInt};
 ghost use lib.IntN.{pos};
 ghost use lib.ListN.{length, getD};
-ghost use Rattle.base.specs.Tests.{upTo};
 ghost use Rattle.h265.specs.Scan as S;
 ghost use Rattle.figure.specs.Figure.{chromaIn};
 ghost use Rattle.smooth.specs.Smooth as D;
@@ -59,7 +58,7 @@ fn chroma_at(format: u8, size: usize, i: usize) -> bool
 }
 
 // What recolouring place i from one entry to another adds.
-fn delta(cells: &[u64; 1024], format: u8, size: usize, from: u64, to: u64, i: usize) -> f32
+pub fn delta(cells: &[u64; 1024], format: u8, size: usize, from: u64, to: u64, i: usize) -> f32
     requires { ⌜ (1 ≤ size) × (i < 1024) ⌝ }
     ensures { λ r. ⌜ r ≡ D.delta format size (now (cells .entry)) from to i ⌝ }
 {
@@ -80,59 +79,6 @@ pub fn colour(palette: &[u64; 64], v: u8) -> u64
     0
 }
 
-// The length of the run of equal indices that starts at start.
-pub fn run_length(indices: &[u8; 1024], n: usize, start: usize) -> usize
-    requires { ⌜ (start < n) × (n ≤ 1024) ⌝ }
-    ensures { λ r. ⌜ (r ≡ D.runLength n (now (indices .entry)) start) × (1 ≤ r) × (start + r ≤ n) ⌝ }
-{
-    let v = indices[start];
-    let mut end = start + 1;
-    while end < n {
-        if indices[end] != v {
-            return end - start;
-        }
-        end += 1;
-    }
-    end - start
-}
-
-// Whether every sample of a run fits an entry.
-pub fn run_fits(cells: &[u64; 1024], tol: u64, entry: u64, start: usize, len: usize) -> bool
-    requires { ⌜ start + len ≤ 1024 ⌝ }
-    ensures { λ r. ⌜ r ≡ upTo len (λ j. D.fits (now (cells .entry)) tol entry (start + j)) ⌝ }
-{
-    let mut j: usize = 0;
-    while j < len {
-        if tol < quant::distance(entry, cells[start + j]) {
-            return false;
-        }
-        j += 1;
-    }
-    true
-}
-
-// What recolouring a run from one entry to another adds.
-pub fn run_cost(
-    cells: &[u64; 1024],
-    format: u8,
-    size: usize,
-    from: u64,
-    to: u64,
-    start: usize,
-    len: usize,
-) -> f32
-    requires { ⌜ (1 ≤ size) × (start + len ≤ 1024) ⌝ }
-    ensures { λ r. ⌜ r ≡ D.sumFrom (D.delta format size (now (cells .entry)) from to) start len ⌝ }
-{
-    let mut sum: f32 = -0.0;
-    let mut j: usize = 0;
-    while j < len {
-        sum = sum + delta(cells, format, size, from, to, start + j);
-        j += 1;
-    }
-    sum
-}
-
 // The index above place i.
 pub fn above(indices: &[u8; 1024], size: usize, i: usize) -> u8
     requires { ⌜ (1 ≤ size) × (size ≤ i) × (i < 1024) ⌝ }
@@ -142,7 +88,7 @@ pub fn above(indices: &[u8; 1024], size: usize, i: usize) -> u8
 }
 
 // Whether the index above place i is no escape, and is the run's value or fits.
-fn above_fits(
+pub fn above_fits(
     cells: &[u64; 1024],
     palette: &[u64; 64],
     indices: &[u8; 1024],
@@ -163,54 +109,4 @@ fn above_fits(
         return true;
     }
     quant::distance(colour(palette, a), cells[i]) <= tol
-}
-
-// Whether every index above a run fits.
-pub fn run_above_fits(
-    cells: &[u64; 1024],
-    palette: &[u64; 64],
-    indices: &[u8; 1024],
-    size: usize,
-    escape: u8,
-    tol: u64,
-    value: u8,
-    start: usize,
-    len: usize,
-) -> bool
-    requires { ⌜ (1 ≤ size) × (size ≤ start) × (start + len ≤ 1024) × (length (now palette) ≡ 64) ⌝ }
-    ensures { λ r. ⌜ r ≡ upTo len (λ j. D.aboveFits size escape tol (now (palette .entry)) (now (cells .entry)) (now (indices .entry)) value (start + j)) ⌝ }
-{
-    let mut j: usize = 0;
-    while j < len {
-        if above_fits(cells, palette, indices, size, escape, tol, value, start + j) {
-            j += 1;
-        } else {
-            return false;
-        }
-    }
-    true
-}
-
-// What copying a run from above adds.
-pub fn run_above_cost(
-    cells: &[u64; 1024],
-    palette: &[u64; 64],
-    indices: &[u8; 1024],
-    format: u8,
-    size: usize,
-    from: u64,
-    start: usize,
-    len: usize,
-) -> f32
-    requires { ⌜ (1 ≤ size) × (size ≤ start) × (start + len ≤ 1024) × (length (now palette) ≡ 64) ⌝ }
-    ensures { λ r. ⌜ r ≡ D.sumFrom (λ i. D.delta format size (now (cells .entry)) from (getD (now (palette .entry)) (S.aboveAt size (now (indices .entry)) i) 0) i) start len ⌝ }
-{
-    let mut sum: f32 = -0.0;
-    let mut j: usize = 0;
-    while j < len {
-        let to = colour(palette, above(indices, size, start + j));
-        sum = sum + delta(cells, format, size, from, to, start + j);
-        j += 1;
-    }
-    sum
 }

@@ -1,15 +1,15 @@
--- `smooth::run_length`. The loop's invariant: the places passed have the run's index, and the rest of the run makes the whole.
+-- `smoothcosts::run_length`. The loop's invariant: the places passed have the run's index, and the rest of the run makes the whole.
 use mathlib.Core.Path.{_≡_, sym, _∙_}
 use Prim.Native.Nat.{ℕ, _+_, _-_, _≤_, _<_}
 use native.Mathlib.Omega.{arith}
 use lib.ListN.{getD}
 use Rattle.smooth.specs.Smooth.{stretch, runLength}
 use Rattle.smooth.specs.Laws.{stretch-more, stretch-stop, stretch-end, run-first}
 use borrow.Author.Needs.{needs}
-use Rattle.smooth.proofs.run_length.Statement.{statement}
-use Rattle.smooth.proofs.run_length.Tie as tie
-use Rattle.smooth.proofs.run_length.Reads as reads
-use Rattle.smooth.proofs.run_length.Lts as lts
+use Rattle.smoothcosts.proofs.run_length.Statement.{statement}
+use Rattle.smoothcosts.proofs.run_length.Tie as tie
+use Rattle.smoothcosts.proofs.run_length.Reads as reads
+use Rattle.smoothcosts.proofs.run_length.Lts as lts
 
 abbrev Inv-loop : tie.InvT-loop
 Inv-loop indices n start v end₀ end = (start < end) × (end ≤ n) × (end + stretch indices v (n - end) end ≡ start + runLength n indices start)

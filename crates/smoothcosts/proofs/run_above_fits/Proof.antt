@@ -1,16 +1,16 @@
--- `smooth::run_above_fits`. The loop's invariant: the indices above the places passed fit.
+-- `smoothcosts::run_above_fits`. The loop's invariant: the indices above the places passed fit.
 use mathlib.Core.Bool.{true, false}
 use mathlib.Core.Path.{_≡_, sym, _∙_}
 use Prim.Native.Nat.{ℕ, _+_, _-_, _≤_}
 use native.Mathlib.Omega.{arith}
 use Rattle.base.specs.Tests.{upTo, up-to-none, up-to-next, up-to-fails}
 use Rattle.smooth.specs.Smooth.{aboveFits}
 use borrow.Author.Needs.{needs}
-use Rattle.smooth.proofs.run_above_fits.Statement.{statement}
-use Rattle.smooth.proofs.run_above_fits.Tie as tie
-use Rattle.smooth.proofs.run_above_fits.Reads as reads
-use Rattle.smooth.proofs.run_above_fits.Lts as lts
+use Rattle.smoothcosts.proofs.run_above_fits.Statement.{statement}
+use Rattle.smoothcosts.proofs.run_above_fits.Tie as tie
+use Rattle.smoothcosts.proofs.run_above_fits.Reads as reads
+use Rattle.smoothcosts.proofs.run_above_fits.Lts as lts
 use Rattle.smooth.proofs.above_fits.Reads as above-fits-reads
 
 abbrev Inv-loop : tie.InvT-loop
 Inv-loop cells palette indices size escape tol value start len j₀ j = (j ≤ len) × (upTo j (λ (i : ℕ). aboveFits size escape tol palette cells indices value (start + i)) ≡ true)

@@ -1,16 +1,16 @@
--- `smooth::run_fits`. The loop's invariant: the samples passed fit.
+-- `smoothcosts::run_fits`. The loop's invariant: the samples passed fit.
 use mathlib.Core.Bool.{true, false}
 use mathlib.Core.Path.{_≡_, sym, _∙_}
 use Prim.Native.Nat.{ℕ, _+_, _-_, _≤_}
 use native.Mathlib.Omega.{arith}
 use borrow.Author.Tests.{le-leb, lt-leb}
 use Rattle.base.specs.Tests.{upTo, up-to-none, up-to-next, up-to-fails}
 use Rattle.smooth.specs.Smooth.{fits}
 use borrow.Author.Needs.{needs}
-use Rattle.smooth.proofs.run_fits.Statement.{statement}
-use Rattle.smooth.proofs.run_fits.Tie as tie
-use Rattle.smooth.proofs.run_fits.Reads as reads
-use Rattle.smooth.proofs.run_fits.Lts as lts
+use Rattle.smoothcosts.proofs.run_fits.Statement.{statement}
+use Rattle.smoothcosts.proofs.run_fits.Tie as tie
+use Rattle.smoothcosts.proofs.run_fits.Reads as reads
+use Rattle.smoothcosts.proofs.run_fits.Lts as lts
 use Rattle.quant.proofs.distance.Reads as distance-reads
 
 abbrev Inv-loop : tie.InvT-loop
