@@ -42,7 +42,7 @@ pub fn block_figure(c: PaletteConfig, cu: PaletteCu, cells: &[u64; 1024]) -> u64
 }
 
 // Whether a block holds together and is the call's.
-fn block_in(c: PaletteConfig, g: SourceBlock, cu: PaletteCu) -> bool
+pub fn block_in(c: PaletteConfig, g: SourceBlock, cu: PaletteCu) -> bool
     ensures { λ r. ⌜ r ≡ blockIn c g cu ⌝ }
 {
     whole::holds_together(64, cu) & whole::matches(c, cu) & (cu.size == g.size)

@@ -1,0 +1,4 @@
+pub mod Smoothing
+pub mod Laws
+pub mod Kept
+pub mod Holds
