@@ -1,24 +1,32 @@
-//! Holds the port against source 000, case by case. `--list` writes the fixed list of answers instead.
+//! Holds the port against source 000, case by case. `--list` writes the fixed lists of answers instead, and `--speed` measures both sides.
 
 include!(concat!(env!("OUT_DIR"), "/source.rs"));
 
+mod analysis;
+mod assign;
 mod bins;
+mod blocks;
+mod chain;
 mod code;
 mod codes;
+mod draw;
 mod list;
 mod port;
 mod quant;
+mod refusals;
 mod report;
 mod scan;
+mod speed;
+mod update;
 
 use report::Report;
 use std::path::Path;
 use std::process::ExitCode;
 
-const USAGE: &str = "usage: oracle/run [--seed N] [--count N] [--only NAME] | --list";
+const USAGE: &str = "usage: oracle/run [--seed N] [--count N] [--only NAME] | --list | --speed";
 
 fn main() -> ExitCode {
-    let (mut seed, mut count, mut only, mut list) = (1, 20_000, None, false);
+    let (mut seed, mut count, mut only, mut list, mut speed) = (1, 20_000, None, false, false);
     let mut words = std::env::args().skip(1);
     while let Some(word) = words.next() {
         let mut number = || words.next().and_then(|n| n.parse::<u64>().ok());
@@ -36,6 +44,7 @@ fn main() -> ExitCode {
                 None => return usage(),
             },
             "--list" => list = true,
+            "--speed" => speed = true,
             _ => return usage(),
         }
     }
@@ -49,10 +58,18 @@ fn main() -> ExitCode {
             }
         };
     }
+    if speed {
+        speed::measure();
+        return ExitCode::SUCCESS;
+    }
     let mut report = Report::new(seed, count, only);
     scan::compare(&mut report);
     quant::compare(&mut report);
     codes::compare(&mut report);
+    update::compare(&mut report);
+    analysis::compare(&mut report);
+    assign::compare(&mut report);
+    chain::compare(&mut report);
     if report.finish() {
         ExitCode::SUCCESS
     } else {

@@ -107,17 +107,19 @@ fn count(random: &mut Random, n: usize) -> usize {
         1 => n / 2 + 1,
         2 => one_of(random, &[64, 65, 66, 127, 128, 129]),
         3 => 1 + up_to(random, n / 2 + 1),
+        4 => 40,
         _ => 1 + up_to(random, 10),
     }
 }
 
-/// Which colour a place has: patches, stripes, lines on a ground, noise, or each as often.
+/// Which colour a place has: a map's patches with a track one cell wide, other patches, stripes, lines on a ground, noise, or each as often.
 fn pattern(random: &mut Random, input: &Input, count: usize) -> Box<dyn Fn(usize, usize) -> usize> {
     let (a, b) = (1 + up_to(random, 7), 1 + up_to(random, 7));
     let (x0, y0, size) = (input.source[side::X0], input.source[side::Y0], input.size());
     let noise: Vec<usize> = (0..1024).map(|_| up_to(random, count - 1)).collect();
     let drawn = move |x: usize, y: usize| noise[(x * 31 + y * 37) % 1024];
-    match random.below(6) {
+    match random.below(7) {
+        5 => Box::new(move |x, y| if (x + y / b) % 23 == a { 0 } else { drawn(x / (a + 1) * 3, y / (b + 1) * 5) }),
         0 => Box::new(move |x, y| (x / a + y / b) % count),
         1 => Box::new(move |_, y| y % count),
         2 => Box::new(move |x, y| if x % (a + 3) == 0 || y % (b + 3) == 0 { drawn(x, y) } else { 0 }),

@@ -3,7 +3,7 @@ use mathlib.Core.Path.{_≡_, refl, ap, sym, _∙_}
 use mathlib.Core.List.{List}
 use Prim.Native.Nat.{ℕ}
 use borrow.Author.Tests.{ne-eqb}
-use Rattle.exports_block.specs.Calls.{answered}
+use Rattle.calls.specs.Calls.{answered}
 
 module _ {A : Type 0} (number : ℕ) (before after : A) where
   pub answered-refused : (number ≡ 0 → ⊥) → (number, before) ≡ answered number before after

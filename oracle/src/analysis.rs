@@ -8,17 +8,17 @@ use crate::refusals::{self, refused, Edit};
 use crate::report::{Random, Report};
 
 extern "C" {
-    fn velomitra_analyze(
+    fn velomitra_analyze_palette(
         y: *const u16,
         y_len: usize,
         cb: *const u16,
         cb_len: usize,
         cr: *const u16,
         cr_len: usize,
-        source: *const usize,
-        source_len: usize,
         config: *const i32,
         config_len: usize,
+        source: *const usize,
+        source_len: usize,
         predictor: *const u16,
         predictor_len: usize,
         keys: *mut u64,
@@ -30,20 +30,20 @@ extern "C" {
         block: *mut u16,
         block_len: usize,
     ) -> u8;
-    fn velomitra_analyze_within(
+    fn velomitra_analyze_with(
         y: *const u16,
         y_len: usize,
         cb: *const u16,
         cb_len: usize,
         cr: *const u16,
         cr_len: usize,
-        source: *const usize,
-        source_len: usize,
         config: *const i32,
         config_len: usize,
-        tolerance: u64,
+        source: *const usize,
+        source_len: usize,
         predictor: *const u16,
         predictor_len: usize,
+        tolerance: u64,
         keys: *mut u64,
         keys_len: usize,
         entry: *mut u16,
@@ -88,17 +88,17 @@ impl Op for Analyze {
         let ([y, cb, cr], lent) = (&input.planes, &mut input.lent);
         // SAFETY: as in port.rs
         unsafe {
-            velomitra_analyze(
+            velomitra_analyze_palette(
                 y.as_ptr(),
                 y.len(),
                 cb.as_ptr(),
                 cb.len(),
                 cr.as_ptr(),
                 cr.len(),
-                input.source.as_ptr(),
-                input.source.len(),
                 input.config.as_ptr(),
                 input.config.len(),
+                input.source.as_ptr(),
+                input.source.len(),
                 lent.predictor.as_ptr(),
                 lent.predictor.len(),
                 lent.keys.as_mut_ptr(),
@@ -129,20 +129,20 @@ impl Op for Within {
         let ([y, cb, cr], lent) = (&input.planes, &mut input.lent);
         // SAFETY: as in port.rs
         unsafe {
-            velomitra_analyze_within(
+            velomitra_analyze_with(
                 y.as_ptr(),
                 y.len(),
                 cb.as_ptr(),
                 cb.len(),
                 cr.as_ptr(),
                 cr.len(),
-                input.source.as_ptr(),
-                input.source.len(),
                 input.config.as_ptr(),
                 input.config.len(),
-                input.tolerance,
+                input.source.as_ptr(),
+                input.source.len(),
                 lent.predictor.as_ptr(),
                 lent.predictor.len(),
+                input.tolerance,
                 lent.keys.as_mut_ptr(),
                 lent.keys.len(),
                 lent.entry.as_mut_ptr(),

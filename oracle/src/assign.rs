@@ -8,32 +8,32 @@ use crate::refusals::{self, refused, Edit};
 use crate::report::{Random, Report};
 
 extern "C" {
-    fn velomitra_assign(
+    fn velomitra_assign_indices(
         y: *const u16,
         y_len: usize,
         cb: *const u16,
         cb_len: usize,
         cr: *const u16,
         cr_len: usize,
-        source: *const usize,
-        source_len: usize,
         config: *const i32,
         config_len: usize,
+        source: *const usize,
+        source_len: usize,
         transpose: bool,
         block: *mut u16,
         block_len: usize,
     ) -> u8;
-    fn velomitra_sse(
+    fn velomitra_palette_sse(
         y: *const u16,
         y_len: usize,
         cb: *const u16,
         cb_len: usize,
         cr: *const u16,
         cr_len: usize,
-        source: *const usize,
-        source_len: usize,
         config: *const i32,
         config_len: usize,
+        source: *const usize,
+        source_len: usize,
         block: *const u16,
         block_len: usize,
         figure: *mut u64,
@@ -62,17 +62,17 @@ impl Op for Assign {
         let ([y, cb, cr], lent) = (&input.planes, &mut input.lent);
         // SAFETY: as in port.rs
         let number = unsafe {
-            velomitra_assign(
+            velomitra_assign_indices(
                 y.as_ptr(),
                 y.len(),
                 cb.as_ptr(),
                 cb.len(),
                 cr.as_ptr(),
                 cr.len(),
-                input.source.as_ptr(),
-                input.source.len(),
                 input.config.as_ptr(),
                 input.config.len(),
+                input.source.as_ptr(),
+                input.source.len(),
                 input.transpose,
                 lent.block.as_mut_ptr(),
                 lent.block.len(),
@@ -101,17 +101,17 @@ impl Op for Figure {
         let ([y, cb, cr], lent) = (&input.planes, &mut input.lent);
         // SAFETY: as in port.rs
         let number = unsafe {
-            velomitra_sse(
+            velomitra_palette_sse(
                 y.as_ptr(),
                 y.len(),
                 cb.as_ptr(),
                 cb.len(),
                 cr.as_ptr(),
                 cr.len(),
-                input.source.as_ptr(),
-                input.source.len(),
                 input.config.as_ptr(),
                 input.config.len(),
+                input.source.as_ptr(),
+                input.source.len(),
                 lent.block.as_ptr(),
                 lent.block.len(),
                 lent.figure.as_mut_ptr(),
