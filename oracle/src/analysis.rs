@@ -227,7 +227,7 @@ fn limits() -> impl Iterator<Item = Input> {
     })
 }
 
-fn edits() -> Vec<Edit> {
+pub fn edits() -> Vec<Edit> {
     let mut edits = refusals::pictures();
     edits.extend(refusals::predictor());
     edits.extend([
@@ -270,7 +270,7 @@ fn edits() -> Vec<Edit> {
     edits
 }
 
-fn within_edits() -> Vec<Edit> {
+pub fn within_edits() -> Vec<Edit> {
     let mut edits = refusals::pictures();
     edits.extend(refusals::predictor());
     edits.extend([

@@ -177,7 +177,7 @@ fn small() -> impl Iterator<Item = Input> {
     two.chain(three)
 }
 
-fn edits() -> Vec<Edit> {
+pub fn edits() -> Vec<Edit> {
     let mut edits = refusals::pictures();
     edits.extend(refusals::matching());
     edits.extend(refusals::palette());
@@ -208,7 +208,7 @@ fn escaping(input: &mut Input, cells: usize) {
     block[PALETTE] = 20;
 }
 
-fn figure_edits() -> Vec<Edit> {
+pub fn figure_edits() -> Vec<Edit> {
     let mut edits = refusals::pictures();
     edits.extend(refusals::matching());
     edits.extend(refusals::whole());

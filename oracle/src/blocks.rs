@@ -100,7 +100,7 @@ pub fn triples(list: &[u16]) -> Vec<[u16; 3]> {
 }
 
 /// The error figure that a block's list holds.
-fn figure(block: &[u16]) -> u64 {
+pub fn figure(block: &[u16]) -> u64 {
     (0..4).map(|k| u64::from(block[at::FIGURE + k]) << (16 * k)).sum()
 }
 

@@ -11,6 +11,7 @@ mod code;
 mod codes;
 mod draw;
 mod list;
+mod list_blocks;
 mod port;
 mod quant;
 mod refusals;
@@ -50,7 +51,8 @@ fn main() -> ExitCode {
     }
     print!("{}", include_str!(concat!(env!("OUT_DIR"), "/difference.txt")));
     if list {
-        return match list::write(Path::new(concat!(env!("CARGO_MANIFEST_DIR"), "/../crates/answers"))) {
+        let crates = Path::new(concat!(env!("CARGO_MANIFEST_DIR"), "/../crates"));
+        return match list::write(&crates.join("answers")).and_then(|()| list_blocks::write(&crates.join("answers_block"))) {
             Ok(()) => ExitCode::SUCCESS,
             Err(why) => {
                 eprintln!("the list is not written: {why}");

@@ -5,10 +5,10 @@ use crate::draw::{analysed, assigned};
 
 /// A change to the base of a format, and the refusal that is then due; 0 where source 000's answer is.
 pub struct Edit {
-    what: &'static str,
-    format: i32,
-    due: u8,
-    change: fn(&mut Input),
+    pub what: &'static str,
+    pub format: i32,
+    pub due: u8,
+    pub change: fn(&mut Input),
 }
 
 impl Edit {

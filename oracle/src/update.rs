@@ -79,7 +79,7 @@ fn few() -> impl Iterator<Item = Input> {
     })
 }
 
-fn edits() -> Vec<Edit> {
+pub fn edits() -> Vec<Edit> {
     let mut edits = refusals::block_size();
     edits.extend(refusals::predictor());
     edits.extend(refusals::whole());

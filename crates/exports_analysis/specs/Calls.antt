@@ -23,12 +23,15 @@ counterLent l = counterOf (l .keys) (l .entry) (l .stamp)
 
 -- the refusal's number, or 0; the counter after the call; the block, on a refusal as it was
 abbrev pub analyzedLaid : Analyzed → Lent → ℕ × Lent
-analyzedLaid done l = (done .refusal, record {
-  keys = sets (l .keys) 0 (done .counter .keys);
-  entry = sets (l .entry) 0 (done .counter .entry);
-  stamp = sets (l .stamp) 0 (marksOf (done .counter));
-  block = pick (eqb (done .refusal) 0) (sets (l .block) 0 (flatBlock (done .cu))) (l .block);
-})
+analyzedLaid done l = (
+  done .refusal,
+  record {
+    keys = sets (l .keys) 0 (done .counter .keys);
+    entry = sets (l .entry) 0 (done .counter .entry);
+    stamp = sets (l .stamp) 0 (marksOf (done .counter));
+    block = pick (eqb (done .refusal) 0) (sets (l .block) 0 (flatBlock (done .cu))) (l .block);
+  },
+)
 
 unfoldable pub analyzeOut : List ℕ → List ℕ → List ℕ → List ℤ → List ℕ → List ℕ → Lent → ℕ × Lent
 analyzeOut luma cb cr config source predictor l = analyzedLaid (analyzeOf luma cb cr (configOf config) (sourceOf source) (predictorOf predictor) (counterLent l)) l

@@ -1,9 +1,9 @@
 // Analysis for other languages, nothing required. Blocks, predictors, configurations and geometries are lists of numbers, as crate flat lays them out; the colour counter is three, as crate flatcounter does. Each answers a refusal's number and leaves the block lent to it as it was, or answers 0. The counter moves as document 01 says, on 13 too.
 ghost use mathlib.Core.Path.{_≡_};
 ghost use Rattle.exports_analysis.specs.Calls.{Lent, analyzedLaid, analyzeOut, analyzeWithOut};
+use analysis::Analyzed;
 use analysis::analyze_palette;
 use analysis::analyze_with;
-use analysis::Analyzed;
 use flat::config_of;
 use flat::predictor_of;
 use flat::source_of;
