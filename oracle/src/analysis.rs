@@ -294,13 +294,13 @@ pub fn compare(report: &mut Report) {
     report.compare("analyze-small", small().map(Call::<Analyze>::new));
     report.compare("analyze-limits", limits().map(Call::<Analyze>::new));
     let mut random = report.random("analyze");
-    report.compare("analyze", (0..report.count).map(move |_| Call::<Analyze>::new(input(&mut random))));
+    report.compare("analyze", (0..report.blocks).map(move |_| Call::<Analyze>::new(input(&mut random))));
     let (mut random, mut before) = (report.random("analyze-chained"), None);
-    report.compare("analyze-chained", (0..report.count).map(move |_| Call::<Analyze>::new(chained(&mut random, &mut before))));
+    report.compare("analyze-chained", (0..report.blocks).map(move |_| Call::<Analyze>::new(chained(&mut random, &mut before))));
     let mut random = report.random("analyze-within");
     report.compare(
         "analyze-within",
-        (0..report.count).map(move |_| {
+        (0..report.blocks).map(move |_| {
             let mut case = input(&mut random);
             case.tolerance = harness::color_tolerance(one_of(&mut random, &[0, 4, 9, 16, 22, 28, 34]), false).into();
             Call::<Within>::new(case)

@@ -45,5 +45,5 @@ fn next(random: &mut Random, before: &mut Option<Input>) -> Input {
 
 pub fn compare(report: &mut Report) {
     let (mut random, mut before) = (report.random("chain"), None);
-    report.compare("chain", (0..report.count).map(move |_| Call::<Chain>::new(next(&mut random, &mut before))));
+    report.compare("chain", (0..report.blocks).map(move |_| Call::<Chain>::new(next(&mut random, &mut before))));
 }

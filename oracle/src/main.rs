@@ -27,7 +27,7 @@ use std::process::ExitCode;
 const USAGE: &str = "usage: oracle/run [--seed N] [--count N] [--only NAME] | --list | --speed";
 
 fn main() -> ExitCode {
-    let (mut seed, mut count, mut only, mut list, mut speed) = (1, 20_000, None, false, false);
+    let (mut seed, mut count, mut only, mut list, mut speed) = (1, None, None, false, false);
     let mut words = std::env::args().skip(1);
     while let Some(word) = words.next() {
         let mut number = || words.next().and_then(|n| n.parse::<u64>().ok());
@@ -37,7 +37,7 @@ fn main() -> ExitCode {
                 None => return usage(),
             },
             "--count" => match number() {
-                Some(n) => count = n as usize,
+                Some(n) => count = Some(n as usize),
                 None => return usage(),
             },
             "--only" => match words.next() {

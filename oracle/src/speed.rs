@@ -1,4 +1,4 @@
-//! Times of both sides on blocks of a map, in one run: medians of rounds that take turns, buffers warm.
+//! Times of both sides on blocks of a map, in one run: medians of calls that take turns, buffers warm.
 
 use crate::analysis::Analyze;
 use crate::assign::{Assign, Figure};
@@ -12,7 +12,7 @@ use std::time::Instant;
 const SIZE: usize = 32;
 /// Blocks across and down the picture.
 const ACROSS: usize = 4;
-const ROUNDS: usize = 301;
+const ROUNDS: usize = 250;
 
 /// A picture of flat patches, with a track one cell wide through them.
 fn map(colors: usize, format: i32) -> Vec<Input> {
@@ -70,18 +70,28 @@ fn medians(inputs: &mut [Input], mut source: impl FnMut(&Input, &mut Buffers), p
         buffers.assign(input);
         assert_eq!((Analyze::port(input), Assign::port(input)), (0, 0));
     }
+    // a block at a time, each side first as often as the other
     let (mut theirs, mut ours) = (Vec::new(), Vec::new());
-    let blocks = inputs.len() as f64;
-    for _ in 0..ROUNDS {
-        let began = Instant::now();
-        inputs.iter().zip(&mut buffers).for_each(|(input, buffers)| source(input, buffers));
-        theirs.push(began.elapsed().as_secs_f64() * 1e6 / blocks);
-        let began = Instant::now();
-        assert!(inputs.iter_mut().all(|input| port(input) == 0));
-        ours.push(began.elapsed().as_secs_f64() * 1e6 / blocks);
+    for round in 0..2 * ROUNDS {
+        for (input, buffers) in inputs.iter_mut().zip(&mut buffers) {
+            if round % 2 == 0 {
+                theirs.push(timed(|| source(input, buffers)));
+            }
+            ours.push(timed(|| assert_eq!(port(input), 0)));
+            if round % 2 == 1 {
+                theirs.push(timed(|| source(input, buffers)));
+            }
+        }
     }
     black_box((&buffers, &inputs));
     (median(theirs), median(ours))
+}
+
+/// In µs.
+fn timed(call: impl FnOnce()) -> f64 {
+    let began = Instant::now();
+    call();
+    began.elapsed().as_secs_f64() * 1e6
 }
 
 fn median(mut times: Vec<f64>) -> f64 {
@@ -103,7 +113,7 @@ fn line(what: &str, (theirs, ours): (f64, f64)) {
 }
 
 pub fn measure() {
-    println!("medians of {ROUNDS} rounds, a block of {SIZE} × {SIZE} of a map at QP 22:");
+    println!("medians of {} calls, blocks of {SIZE} × {SIZE} of a map at QP 22:", 2 * ROUNDS * ACROSS * ACROSS);
     for (colors, format, name) in [(11, 3, "4:4:4"), (11, 1, "4:2:0"), (40, 3, "4:4:4"), (40, 1, "4:2:0")] {
         let mut inputs = map(colors, format);
         println!("{colors} colours, {name}");

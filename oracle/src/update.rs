@@ -133,7 +133,7 @@ pub fn compare(report: &mut Report) {
     let mut random = report.random("update");
     report.compare(
         "update",
-        (0..report.count).map(move |_| {
+        (0..report.blocks).map(move |_| {
             let drawn = input(&mut random);
             let mut case = whole(&mut random, drawn);
             case.limit = one_of(&mut random, &[0, 1, 31, 64, 100, 127, 128]);
@@ -141,6 +141,6 @@ pub fn compare(report: &mut Report) {
         }),
     );
     let (mut random, mut before) = (report.random("update-chained"), None);
-    report.compare("update-chained", (0..report.count).map(move |_| Call::<Update>::new(chained(&mut random, &mut before))));
+    report.compare("update-chained", (0..report.blocks).map(move |_| Call::<Update>::new(chained(&mut random, &mut before))));
     report.compare("update-refusals", refused::<Update>(edits()));
 }
