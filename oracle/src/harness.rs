@@ -2,6 +2,9 @@
 
 use super::*;
 
+#[path = "harness_blocks.rs"]
+pub(crate) mod blocks;
+
 pub(crate) fn index_above(indices: &[u32], scan: usize, size: usize) -> u32 {
     super::index_above(indices, scan, size)
 }

@@ -1,24 +1,33 @@
-//! Holds the port against source 000, case by case. `--list` writes the fixed list of answers instead.
+//! Holds the port against source 000, case by case. `--list` writes the fixed lists of answers instead, and `--speed` measures both sides.
 
 include!(concat!(env!("OUT_DIR"), "/source.rs"));
 
+mod analysis;
+mod assign;
 mod bins;
+mod blocks;
+mod chain;
 mod code;
 mod codes;
+mod draw;
 mod list;
+mod list_blocks;
 mod port;
 mod quant;
+mod refusals;
 mod report;
 mod scan;
+mod speed;
+mod update;
 
 use report::Report;
 use std::path::Path;
 use std::process::ExitCode;
 
-const USAGE: &str = "usage: oracle/run [--seed N] [--count N] [--only NAME] | --list";
+const USAGE: &str = "usage: oracle/run [--seed N] [--count N] [--only NAME] | --list | --speed";
 
 fn main() -> ExitCode {
-    let (mut seed, mut count, mut only, mut list) = (1, 20_000, None, false);
+    let (mut seed, mut count, mut only, mut list, mut speed) = (1, None, None, false, false);
     let mut words = std::env::args().skip(1);
     while let Some(word) = words.next() {
         let mut number = || words.next().and_then(|n| n.parse::<u64>().ok());
@@ -28,7 +37,7 @@ fn main() -> ExitCode {
                 None => return usage(),
             },
             "--count" => match number() {
-                Some(n) => count = n as usize,
+                Some(n) => count = Some(n as usize),
                 None => return usage(),
             },
             "--only" => match words.next() {
@@ -36,12 +45,14 @@ fn main() -> ExitCode {
                 None => return usage(),
             },
             "--list" => list = true,
+            "--speed" => speed = true,
             _ => return usage(),
         }
     }
     print!("{}", include_str!(concat!(env!("OUT_DIR"), "/difference.txt")));
     if list {
-        return match list::write(Path::new(concat!(env!("CARGO_MANIFEST_DIR"), "/../crates/answers"))) {
+        let crates = Path::new(concat!(env!("CARGO_MANIFEST_DIR"), "/../crates"));
+        return match list::write(&crates.join("answers")).and_then(|()| list_blocks::write(&crates.join("answers_block"))) {
             Ok(()) => ExitCode::SUCCESS,
             Err(why) => {
                 eprintln!("the list is not written: {why}");
@@ -49,10 +60,18 @@ fn main() -> ExitCode {
             }
         };
     }
+    if speed {
+        speed::measure();
+        return ExitCode::SUCCESS;
+    }
     let mut report = Report::new(seed, count, only);
     scan::compare(&mut report);
     quant::compare(&mut report);
     codes::compare(&mut report);
+    update::compare(&mut report);
+    analysis::compare(&mut report);
+    assign::compare(&mut report);
+    chain::compare(&mut report);
     if report.finish() {
         ExitCode::SUCCESS
     } else {

@@ -20,14 +20,16 @@ pub trait Case: Clone + Debug {
 pub struct Report {
     /// Random cases of each comparison that has them.
     pub count: usize,
+    /// The same, of block calls.
+    pub blocks: usize,
     seed: u64,
     only: Option<String>,
     lines: Vec<(&'static str, u64, u64)>,
 }
 
 impl Report {
-    pub fn new(seed: u64, count: usize, only: Option<String>) -> Report {
-        Report { count, seed, only, lines: Vec::new() }
+    pub fn new(seed: u64, count: Option<usize>, only: Option<String>) -> Report {
+        Report { count: count.unwrap_or(20_000), blocks: count.unwrap_or(2_000), seed, only, lines: Vec::new() }
     }
 
     /// Whether the run was asked for this comparison: all, or those whose name begins so.

@@ -1,0 +1,134 @@
+//! Times of both sides on blocks of a map, in one run: medians of calls that take turns, buffers warm.
+
+use crate::analysis::Analyze;
+use crate::assign::{Assign, Figure};
+use crate::blocks::{Input, Lent, Op, MOST_ENTRIES};
+use crate::palette::{analyze_palette, assign_indices, harness, ColorIndex, PaletteConfig, PaletteCu, PalettePredictor};
+use crate::report::Random;
+use crate::update::Update;
+use std::hint::black_box;
+use std::time::Instant;
+
+const SIZE: usize = 32;
+/// Blocks across and down the picture.
+const ACROSS: usize = 4;
+const ROUNDS: usize = 250;
+
+/// A picture of flat patches, with a track one cell wide through them.
+fn map(colors: usize, format: i32) -> Vec<Input> {
+    let mut random = Random::new(colors as u64);
+    let side = SIZE * ACROSS;
+    let (sub_w, sub_h) = if format == 1 { (2, 2) } else { (1, 1) };
+    let (cw, ch) = (side / sub_w, side / sub_h);
+    let table: Vec<[u16; 3]> = (0..colors).map(|_| [0; 3].map(|_| random.below(32) as u16 * 8)).collect();
+    let patches: Vec<usize> = (0..side * side).map(|_| random.below(colors as u64) as usize).collect();
+    let at = |x: usize, y: usize| match (x + y / 3) % 29 == 0 {
+        true => table[0],
+        false => table[patches[y / 5 * side + x / 7]],
+    };
+    let plane = |c: usize, w: usize, h: usize, dx: usize, dy: usize| (0..w * h).map(|k| at(k % w * dx, k / w * dy)[c]).collect::<Vec<u16>>();
+    let planes = [plane(0, side, side, 1, 1), plane(1, cw, ch, sub_w, sub_h), plane(2, cw, ch, sub_w, sub_h)];
+    let known: Vec<[u16; 3]> = table.iter().step_by(2).copied().collect();
+    (0..ACROSS * ACROSS)
+        .map(|k| {
+            let mut lent = Lent::default();
+            lent.set_entries(&known);
+            let source = vec![side, side, cw, ch, k % ACROSS * SIZE, k / ACROSS * SIZE, SIZE];
+            Input { config: vec![3, format, 8, 8, 22, 22, 22, 0], source, planes: planes.clone(), transpose: false, limit: MOST_ENTRIES, tolerance: 0, lent }
+        })
+        .collect()
+}
+
+/// Source 000's buffers for a block.
+struct Buffers {
+    config: PaletteConfig,
+    predictor: PalettePredictor,
+    counter: Box<ColorIndex>,
+    cu: Box<PaletteCu>,
+}
+
+impl Buffers {
+    fn new(input: &Input) -> Buffers {
+        let config = input.source_config();
+        Buffers { predictor: input.lent.source_predictor(config.num_comps), counter: input.lent.source_counter(), cu: PaletteCu::new(), config }
+    }
+
+    fn analyze(&mut self, input: &Input) {
+        assert!(analyze_palette(&input.source_block(), &self.predictor, &self.config, &mut self.counter, &mut self.cu));
+    }
+
+    fn assign(&mut self, input: &Input) {
+        assert!(assign_indices(&input.source_block(), &self.config, false, &mut self.cu));
+    }
+}
+
+/// Medians of both sides in µs a block.
+fn medians(inputs: &mut [Input], mut source: impl FnMut(&Input, &mut Buffers), port: impl Fn(&mut Input) -> u8) -> (f64, f64) {
+    let mut buffers: Vec<Buffers> = inputs.iter().map(Buffers::new).collect();
+    for (input, buffers) in inputs.iter_mut().zip(&mut buffers) {
+        buffers.analyze(input);
+        buffers.assign(input);
+        assert_eq!((Analyze::port(input), Assign::port(input)), (0, 0));
+    }
+    // a block at a time, each side first as often as the other
+    let (mut theirs, mut ours) = (Vec::new(), Vec::new());
+    for round in 0..2 * ROUNDS {
+        for (input, buffers) in inputs.iter_mut().zip(&mut buffers) {
+            if round % 2 == 0 {
+                theirs.push(timed(|| source(input, buffers)));
+            }
+            ours.push(timed(|| assert_eq!(port(input), 0)));
+            if round % 2 == 1 {
+                theirs.push(timed(|| source(input, buffers)));
+            }
+        }
+    }
+    black_box((&buffers, &inputs));
+    (median(theirs), median(ours))
+}
+
+/// In µs.
+fn timed(call: impl FnOnce()) -> f64 {
+    let began = Instant::now();
+    call();
+    began.elapsed().as_secs_f64() * 1e6
+}
+
+fn median(mut times: Vec<f64>) -> f64 {
+    times.sort_by(f64::total_cmp);
+    times[times.len() / 2]
+}
+
+/// Source 000's error figure and update, which answer what they do not keep.
+fn figure(input: &Input, b: &mut Buffers) {
+    black_box(harness::blocks::palette_sse(&input.source_block(), &b.config, &b.cu));
+}
+
+fn update(_: &Input, b: &mut Buffers) {
+    b.predictor.update(b.cu.palette_entries(), b.cu.reuse_flags(), MOST_ENTRIES);
+}
+
+fn line(what: &str, (theirs, ours): (f64, f64)) {
+    println!("  {what:24} source 000 {theirs:7.2} µs, port {ours:7.2} µs, ratio {:.2}", ours / theirs);
+}
+
+pub fn measure() {
+    println!("medians of {} calls, blocks of {SIZE} × {SIZE} of a map at QP 22:", 2 * ROUNDS * ACROSS * ACROSS);
+    for (colors, format, name) in [(11, 3, "4:4:4"), (11, 1, "4:2:0"), (40, 3, "4:4:4"), (40, 1, "4:2:0")] {
+        let mut inputs = map(colors, format);
+        println!("{colors} colours, {name}");
+        let both = medians(
+            &mut inputs,
+            |input, b| {
+                b.analyze(input);
+                b.assign(input);
+            },
+            |input| Analyze::port(input).max(Assign::port(input)),
+        );
+        line("analysis and assignment", both);
+        line("analysis", medians(&mut inputs, |input, b| b.analyze(input), Analyze::port));
+        line("assignment", medians(&mut inputs, |input, b| b.assign(input), Assign::port));
+        line("error figure", medians(&mut inputs, figure, Figure::port));
+        line("update", medians(&mut inputs, update, Update::port));
+    }
+}
