@@ -25,11 +25,12 @@ module _ (f : ℕ → Bool) where
   pub lasts-all : (k i j : ℕ) → j < lasts f k i → f (i + j) ≡ true
   unfolding lasts
   lasts-all zero i j h = absurd (omega arith)
-  lasts-all (suc k) i j h = either (f i) (λ t. yes j t (rw t at h)) (λ t. let o : j < 0 = rw t at h in absurd (omega arith))
-    where
-      yes : (j : ℕ) → f i ≡ true → j < suc (lasts f k (suc i)) → f (i + j) ≡ true
-      yes zero t o = rw (add-zero i) t
-      yes (suc j) t o = let e : i + suc j ≡ suc i + j = omega arith in rw e (lasts-all k (suc i) j (omega arith))
+  lasts-all (suc k) i zero h = rw (add-zero i) (either (f i) (λ t. t) (λ t. let o : 0 < 0 = rw t at h in absurd (omega arith)))
+  lasts-all (suc k) i (suc j) h =
+      let e : i + suc j ≡ suc i + j = omega arith in
+      rw e (either (f i)
+      (λ t. let o : suc j < suc (lasts f k (suc i)) = rw t at h in lasts-all k (suc i) j (omega arith))
+      (λ t. let o : suc j < 0 = rw t at h in absurd (omega arith)))
 
   pub lasts-stop : (k i : ℕ) → lasts f k i < k → f (i + lasts f k i) ≡ false
   unfolding lasts
@@ -71,7 +72,7 @@ module _ (n : ℕ) (xs : List ℕ) (p : ℕ) where
   unfolding indexLen
   index-same h e =
       let o : n - p - 1 ≡ n - (p + 1) = omega arith in
-      lasts-yes (λ i. eqb (getD xs i 0) (getD xs p 0)) (n - p) p (omega arith) (eq-eqb _ _ refl) ∙ rw (o, e)
+      lasts-yes (λ i. eqb (getD xs i 0) (getD xs p 0)) (n - p) p (omega arith) (eq-eqb (getD xs p 0) (getD xs p 0) refl) ∙ rw (o, e)
 
   pub index-last : p + 1 ≡ n → indexLen n xs p ≡ 1
   unfolding indexLen lasts
@@ -84,12 +85,12 @@ module _ (n : ℕ) (xs : List ℕ) (p : ℕ) where
   index-other h d =
       let f : ℕ → Bool = λ i. eqb (getD xs i 0) (getD xs p 0) in
       let z : eqb (getD xs (p + 1) 0) (getD xs p 0) ≡ false = ne-eqb _ _ (λ e. d (sym e)) in
-      lasts-yes (λ i. eqb (getD xs i 0) (getD xs p 0)) (n - p) p (omega arith) (eq-eqb _ _ refl)
+      lasts-yes (λ i. eqb (getD xs i 0) (getD xs p 0)) (n - p) p (omega arith) (eq-eqb (getD xs p 0) (getD xs p 0) refl)
       ∙ rw (lasts-no (λ i. eqb (getD xs i 0) (getD xs p 0)) (n - p - 1) (p + 1) z)
 
   pub index-some : p < n → 1 ≤ indexLen n xs p
   unfolding indexLen
-  index-some h = omega (arith, lasts-yes (λ i. eqb (getD xs i 0) (getD xs p 0)) (n - p) p (omega arith) (eq-eqb _ _ refl))
+  index-some h = omega (arith, lasts-yes (λ i. eqb (getD xs i 0) (getD xs p 0)) (n - p) p (omega arith) (eq-eqb (getD xs p 0) (getD xs p 0) refl))
 
 -- ---- copy-above runs
 

@@ -42,18 +42,20 @@ module _ (f : ℕ → Bool) where
   first-none : (k i q : ℕ) → i ≤ q → q < firstFrom f k i → f q ≡ false
   unfolding firstFrom
   first-none zero i q h g = absurd (omega arith)
-  first-none (suc k) i q h g = either (f i) (λ t. let o : q < i = rw t at g in absurd (omega arith)) (λ t. no t (rw t at g))
-    where
-      no : f i ≡ false → q < firstFrom f k (suc i) → f q ≡ false
-      no t o = ⊎-elim (λ (l : i < q). first-none k (suc i) q l o) (λ (l : q ≤ i). let e : q ≡ i = omega arith in rw e t) (lt-or-le i q)
+  first-none (suc k) i q h g =
+      either (f i)
+      (λ t. let o : q < i = rw t at g in absurd (omega arith))
+      (λ t.
+      let o : q < firstFrom f k (suc i) = rw t at g in
+      ⊎-elim (λ (l : i < q). first-none k (suc i) q l o) (λ (l : q ≤ i). let e : q ≡ i = omega arith in rw e t) (lt-or-le i q))
 
   first-here : (k i : ℕ) → firstFrom f k i < i + k → f (firstFrom f k i) ≡ true
   unfolding firstFrom
   first-here zero i h = absurd (omega arith)
-  first-here (suc k) i h = either (f i) (λ t. rw (t, t)) (λ t. no t (rw t at h))
-    where
-      no : f i ≡ false → firstFrom f k (suc i) < i + suc k → f (pick (f i) i (firstFrom f k (suc i))) ≡ true
-      no t o = rw t (first-here k (suc i) (omega arith))
+  first-here (suc k) i h =
+      either (f i)
+      (λ t. rw (t, t))
+      (λ t. let o : firstFrom f k (suc i) < i + suc k = rw t at h in rw t (first-here k (suc i) (omega arith)))
 
   first-yes : (k i : ℕ) → 0 < k → f i ≡ true → firstFrom f k i ≡ i
   unfolding firstFrom

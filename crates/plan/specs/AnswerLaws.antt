@@ -24,7 +24,7 @@ use Rattle.rates.specs.Rates.{ratesIn}
 use Rattle.paths.specs.Cells.{indexLen, aboveLen}
 use Rattle.paths.specs.Stretch.{nextStretch}
 use Rattle.paths.specs.Plan.{Job, Table, tab, Point, swept, fresh, trail, runsOf, endCost, lastKind, planned}
-use Rattle.paths.specs.Reach.{done-sunk}
+use Rattle.paths.specs.Sunk.{done-sunk}
 use Rattle.relax.specs.JumpLaws.{Tables}
 use Rattle.walk.specs.Points.{Falls, Rising, runsIn}
 use Rattle.walk.specs.PointLaws.{trail-rising, runs-are}

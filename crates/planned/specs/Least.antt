@@ -15,12 +15,12 @@ use borrow.Author.Tests.{eq-eqb, ne-eqb, eqb-true, eqb-false, lt-ltb, le-ltb, lt
 use Rattle.base.specs.Pick.{pick, either, true-false, lt-or-le}
 use Rattle.base.specs.Tests.{every, any}
 use Rattle.syntax.specs.Runs.{mayCopy}
 use Rattle.paths.specs.Cells.{copies, indexLen, aboveLen, draws, sentFor, stopsAt}
 use Rattle.paths.specs.CellLaws.{index-le, index-some, above-le, above-yes}
 use Rattle.paths.specs.Plan.{Job, Table, tab, slot, placeOf, kindOf, infinite, headRate, drawCost, copyCost, relaxed, stopped, indexed, copied, stepped, swept, fresh}
 use Rattle.paths.specs.Edges.{costOf}
 use Rattle.paths.specs.TableLaws.{costAt, fromPlace, fromKind, Wide, slot-lt, slot-low, slot-high, slot-of, slot-cases, relaxed-cases, relaxed-wide}
-use Rattle.paths.specs.Reach.{Sunk, fresh-sunk, swept-sunk}
+use Rattle.paths.specs.Sunk.{Sunk, fresh-sunk, swept-sunk}
 
 pub record Entry : Type 0 where
   pub cost : Float

@@ -18,12 +18,12 @@ use Rattle.h265.specs.ScanLaws.{above-before}
 use Rattle.syntax.specs.Runs.{Run, mayCopy}
 use Rattle.syntax.specs.Replay.{reference, lessOne, Copies, Draws, Rules, Replays, replay}
 use Rattle.syntax.specs.ReplayLaws.{above-take, rules-replay}
 use Rattle.paths.specs.Cells.{copies, draws, sentFrom, sentFor}
 use Rattle.paths.specs.CellLaws.{copies-row, copies-same, draws-differs, reference-above, reference-before}
 use Rattle.paths.specs.Plan.{Price, Job, Table, Point, point, slot, infinite, swept, fresh, trail, runTo, runsOf, endCost, lastKind, planned}
 use Rattle.paths.specs.Edges.{Copy, Draw, Edge, edge-low, edge-high}
 use Rattle.paths.specs.TableLaws.{costAt, fromPlace, fromKind, Reached}
-use Rattle.paths.specs.Reach.{Fair, Kept, reached-upto, done-kept, done-reached}
+use Rattle.planned.specs.Reach.{Fair, Kept, reached-upto, done-kept, done-reached}
 
 -- ---- the end that is chosen is reached
 

@@ -1,4 +1,4 @@
--- The table keeps its promises: back-pointers go down by edges from slots that are reached, costs stay finite, and the last place is reached.
+-- The table keeps its promises: back-pointers go by edges from slots that are reached, costs stay finite, and the last place is reached.
 use mathlib.Core.Path.{_≡_, refl, ap, sym, _∙_, subst}
 use mathlib.Core.Bool.{Bool, true, false}
 use mathlib.Core.List.{List, [], _∷_}
@@ -15,60 +15,20 @@ use Rattle.base.specs.Pick.{pick, either, true-false, lt-or-le}
 use Rattle.base.specs.Tests.{every}
 use Rattle.base.specs.Upto.{Upto, number, add-upto, weaken, number-upto, below-infinity}
 use Rattle.h265.specs.Scan.{aboveAt}
-use Rattle.rates.specs.Finite.{index-upto}
+use Rattle.sums.specs.Finite.{index-upto}
 use Rattle.syntax.specs.Runs.{mayCopy}
 use Rattle.syntax.specs.Replay.{reference}
 use Rattle.paths.specs.Cells.{copies, indexLen, aboveLen, draws, sentFor, stopsAt}
 use Rattle.paths.specs.CellLaws.{copies-row, copies-yes, draws-first, draws-yes, index-some, reference-above, reference-before}
 use Rattle.paths.specs.Plan.{Price, Job, Table, slot, placeOf, kindOf, infinite, alphabetAt, flagRate, headRate, drawCost, copyCost, relaxed, stopped, indexed, copied, stepped, swept, fresh, endCost, lastKind}
 use Rattle.paths.specs.Edges.{Copy, Draw, Edge, edge-low, edge-high, costOf, index-edge, copy-edge, stopped-keeps, indexed-keeps, copied-keeps, both-keep}
+use Rattle.paths.specs.Sunk.{fresh-wide}
 use Rattle.paths.specs.TableLaws.{costAt, fromPlace, fromKind, Reached, Wide, slot-lt, slot-low, slot-high, slot-of, place-slot, kind-slot, slot-cases, relaxed-wide, relaxed-still, relaxed-reaches, relaxed-each}
 
 -- ---- the fresh table
 
-zeros : (n s : ℕ) → _≡_ {A = ℕ} (getD (replicate n 0) s 0) 0
-zeros zero s = refl
-zeros (suc n) zero = refl
-zeros (suc n) (suc s) = zeros n s
-
-pub fresh-wide : Wide fresh
-fresh-wide = (refl, refl, refl)
-
 fresh-else : (s : ℕ) → 0 < s → s < 2050 → getD (fresh .cost) s nan ≡ infinite
 fresh-else s z h = getD-set-other (replicate 2050 infinite) 0 s (number 0) nan (λ (e : s ≡ 0). omega arith) ∙ getD-replicate 2050 s infinite nan h
-
--- ---- every back-pointer, of a slot that is reached or not, goes down
-
-pub record Sunk (t : Table) : Type 0 where
-  pub wide : Wide t
-  pub lower : (q : ℕ) (k : Bool) → 0 < q → fromPlace t q k < q
-
-pub fresh-sunk : Sunk fresh
-fresh-sunk = record { wide = fresh-wide; lower = λ q k h. omega (arith, zeros 2050 (slot q k)) }
-
-module _ (j : Job) (nh : j .n ≤ 1024) where
-  sunk-one : (p : ℕ) (l : Bool) (c : Float) (t : Table) (q : ℕ) (k : Bool) → Sunk t → Edge j p l q k → Sunk (relaxed t (slot q k) (costOf j p l c q k) p l)
-  sunk-one p l c t q k s e =
-      let qh : q ≤ 1024 = omega (arith, edge-high j p l q k e) in record {
-        wide = relaxed-wide t q k _ p l (s .wide) qh;
-        lower = relaxed-each t q k _ p l (s .wide) qh (λ q' k' c' p' l'. 0 < q' → p' < q') (λ h. edge-low j p l q k e) (s .lower);
-      }
-
-  stepped-sunk : (s : ℕ) (t : Table) → s < j .n * 2 → Sunk t → Sunk (stepped j s t)
-  unfolding stepped
-  stepped-sunk s t h o = at (lt (getD (t .cost) s nan) infinite)
-    where
-      at : (b : Bool) → Sunk (pick b (copied j (placeOf s) (kindOf s) (getD (t .cost) s nan) (indexed j (placeOf s) (kindOf s) (getD (t .cost) s nan) t)) t)
-      at true = both-keep j (placeOf s) (kindOf s) (getD (t .cost) s nan) (omega arith) Sunk (sunk-one (placeOf s) (kindOf s) (getD (t .cost) s nan)) t o
-      at false = o
-
-  pub swept-sunk : (s : ℕ) (t : Table) → s ≤ j .n * 2 → Sunk t → Sunk (swept j s t)
-  unfolding swept
-  swept-sunk zero t h o = o
-  swept-sunk (suc s) t h o = stepped-sunk s (swept j s t) (omega arith) (swept-sunk s t (omega arith) o)
-
-  pub done-sunk : Sunk (swept j (j .n * 2) fresh)
-  done-sunk = swept-sunk (j .n * 2) fresh (le-refl _) fresh-sunk
 
 -- ---- prices that keep sums finite
 

@@ -15,10 +15,10 @@ use Rattle.rates.specs.Rates.{ratesIn}
 use Rattle.sums.specs.Finite.{type-upto, run-upto, shares-upto}
 use Rattle.syntax.specs.Replay.{Replays, replay}
 use Rattle.paths.specs.Plan.{priceOf, infinite, planned}
-use Rattle.paths.specs.Reach.{Fair}
-use Rattle.paths.specs.Covers.{planned-rules, planned-replay, total-finite}
+use Rattle.planned.specs.Reach.{Fair}
+use Rattle.planned.specs.Covers.{planned-rules, planned-replay, total-finite}
 use Rattle.plan.specs.Answer.{jobOf}
 use Rattle.plan.specs.AnswerLaws.{most-in}
 
 pub fair-prices : (m : RateModel) (most : ℕ) → ratesIn m ≡ true → most ≤ 64 → Fair (priceOf m most)
 fair-prices m most e h = record {

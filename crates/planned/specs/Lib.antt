@@ -1,0 +1,4 @@
+pub mod Reach
+pub mod Covers
+pub mod Least
+pub mod Planning
