@@ -62,8 +62,7 @@ loop-less c = omega arith
 
 loop-again : tie.Need-loop-again Inv-loop μ-loop
 loop-again c =
-    let z : c .before .before .before .args .row * 12 + c .before .before .loop .k - c .before .before .before .args .row * 12 ≡ c .before .before .loop .k = omega arith in
-    (
+    let z : c .before .before .before .args .row * 12 + c .before .before .loop .k - c .before .before .before .args .row * 12 ≡ c .before .before .loop .k = omega arith in (
       omega arith,
       c .row-step .ensures .1,
       laid-step _ _ _ _ _ _ (c .before .before .loop .inv .2) (rw z (c .row-step .ensures .0)),
