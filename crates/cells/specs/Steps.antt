@@ -4,13 +4,13 @@ use mathlib.Core.Bool.{Bool, true, false}
 use mathlib.Core.List.{List, [], _∷_}
 use mathlib.Core.Logic.{⊎-elim}
 use Prim.Native.Nat.{ℕ, zero, suc, _+_, _*_, _-_, _/_, _≤_, _<_}
-use native.Mathlib.Nat.{suc-mul, add-mul, one-mul}
+use native.Mathlib.Nat.{suc-mul, add-mul, one-mul, zero-mul}
 use native.Mathlib.Omega.{arith}
 use lib.Arith.{digits-div}
 use lib.Dec.{eqb, leb, ltb}
-use lib.ListN.{getD}
+use lib.ListN.{getD, set}
 use borrow.Author.Tests.{eq-eqb, ne-eqb, eqb-true, eqb-false, lt-ltb, le-ltb}
-use Rattle.base.specs.Cells.{laid, laid-in}
+use Rattle.base.specs.Cells.{laid, laid-same, laid-back}
 use Rattle.base.specs.Pick.{pick, either, lt-or-le}
 use Rattle.base.specs.Tests.{every}
 use Rattle.h265.specs.Scan.{placeAbove, aboveAt}
@@ -52,6 +52,12 @@ next-row row size = sym (add-mul row 1 size ∙ rw one-mul)
 pub above-low : (size : ℕ) (xs : List ℕ) (i : ℕ) → i < size → 0 ≡ aboveAt size xs i
 unfolding aboveAt
 above-low size xs i h = rw (lt-ltb i size h)
+
+-- row 0
+pub first-row : (size row : ℕ) (xs l : List ℕ) → row ≡ 0 → laid (λ i. 0) l 0 size ≡ laid (aboveAt size xs) l (row * size) size
+first-row size row xs l e =
+    let z : row * size ≡ 0 = rw e (zero-mul size) in
+    rw z (laid-same (λ i. 0) (aboveAt size xs) l 0 size (λ j h. above-low size xs (0 + j) (omega arith)))
 
 pub above-in-row : (size row j : ℕ) (xs : List ℕ) → 1 ≤ row → j < size → getD xs (row * size - 1 - j) 0 ≡ aboveAt size xs (row * size + j)
 unfolding aboveAt
@@ -128,6 +134,14 @@ module _ (size n : ℕ) (xs : List ℕ) (p : ℕ) where
   pub stretch-on : p < n → nextStretch size n xs (p + 1) ≡ stretchAfter size n xs p
   unfolding stretchAfter
   stretch-on h = let o : p ≡ n → ⊥ = λ e. omega arith in rw (ne-eqb p n o)
+
+-- ---- one cell back of a loop that lays
+
+pub laid-down : (f : ℕ → ℕ) (l out : List ℕ) (n p v : ℕ) → 0 < p → p ≤ n → out ≡ laid f l p (n - p) → v ≡ f (p - 1) → set out (p - 1) v ≡ laid f l (p - 1) (n - (p - 1))
+laid-down f l out n p v h g e w = let z : p - 1 + 1 ≡ p = omega arith in laid-back f l out n (p - 1) v (omega arith) (rw z e) w
+
+pub laid-after : (f : ℕ → ℕ) (l out : List ℕ) (n p v : ℕ) → 0 < p → p ≤ n → out ≡ laid f l (p + 1) (n + 1 - (p + 1)) → v ≡ f p → set out p v ≡ laid f l (p - 1 + 1) (n + 1 - (p - 1 + 1))
+laid-after f l out n p v h g e w = let z : p - 1 + 1 ≡ p = omega arith in rw z (laid-back f l out (n + 1) p v (omega arith) e w)
 
 -- ---- what the loop knows of the cells from p on
 

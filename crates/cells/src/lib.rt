@@ -12,8 +12,20 @@ ghost use Rattle.paths.specs.Cells.{drawsFrom, sentFrom, indexLen, aboveLen};
 ghost use Rattle.paths.specs.Stretch.{nextStretch};
 ghost use Rattle.cells.specs.Steps.{referenceIn, stretchStep};
 
-// One row of the cells above: each stands as far before the row's start as its own cell stands after it.
-fn above_row(xs: &[u8; 1024], above: &mut [u8; 1024], size: usize, row: usize)
+// Row 0, which has no cells above: 0.
+fn first_row(above: &mut [u8; 1024], size: usize)
+    requires { ⌜ size ≤ 32 ⌝ }
+    ensures { λ _. ⌜ now (above .exit) ≡ laid (λ i. 0) (now (above .entry)) 0 size ⌝ }
+{
+    let mut j: usize = 0;
+    while j < size {
+        above[j] = 0;
+        j += 1;
+    }
+}
+
+// A later row: each cell above stands as far before the row's start as its own cell stands after it.
+fn later_row(xs: &[u8; 1024], above: &mut [u8; 1024], size: usize, row: usize)
     requires { ⌜ (1 ≤ row) × (row < size) × (size ≤ 32) ⌝ }
     ensures { λ _. ⌜ now (above .exit) ≡ laid (aboveAt size (now (xs .entry))) (now (above .entry)) (row * size) size ⌝ }
 {
@@ -25,17 +37,24 @@ fn above_row(xs: &[u8; 1024], above: &mut [u8; 1024], size: usize, row: usize)
     }
 }
 
+// One row of the cells above.
+fn above_row(xs: &[u8; 1024], above: &mut [u8; 1024], size: usize, row: usize)
+    requires { ⌜ (row < size) × (size ≤ 32) ⌝ }
+    ensures { λ _. ⌜ now (above .exit) ≡ laid (aboveAt size (now (xs .entry))) (now (above .entry)) (row * size) size ⌝ }
+{
+    if row == 0 {
+        first_row(above, size);
+        return;
+    }
+    later_row(xs, above, size, row);
+}
+
 // The index above each cell, 0 in row 0.
 pub fn fill_above(xs: &[u8; 1024], above: &mut [u8; 1024], size: usize)
-    requires { ⌜ (1 ≤ size) × (size ≤ 32) ⌝ }
+    requires { ⌜ size ≤ 32 ⌝ }
     ensures { λ _. ⌜ now (above .exit) ≡ laid (aboveAt size (now (xs .entry))) (now (above .entry)) 0 (size * size) ⌝ }
 {
-    let mut j: usize = 0;
-    while j < size {
-        above[j] = 0;
-        j += 1;
-    }
-    let mut row: usize = 1;
+    let mut row: usize = 0;
     while row < size {
         above_row(xs, above, size, row);
         row += 1;
@@ -95,8 +114,8 @@ pub fn fill_lengths(
     n: usize,
 )
     requires { ⌜ (n ≤ 1024) × ((i : ℕ) → i < n → getD (now above) i 0 ≡ aboveAt size (now xs) i) ⌝ }
-    ensures { λ _. ⌜ (now (index_len .exit) ≡ laid (indexLen n (now (xs .entry))) (now (index_len .entry)) 0 n)
-        × (now (above_len .exit) ≡ laid (aboveLen size n (now (xs .entry))) (now (above_len .entry)) 0 (n + 1))
+    ensures { λ _. ⌜ (now («index_len» .exit) ≡ laid (indexLen n (now (xs .entry))) (now («index_len» .entry)) 0 n)
+        × (now («above_len» .exit) ≡ laid (aboveLen size n (now (xs .entry))) (now («above_len» .entry)) 0 (n + 1))
         × (now (next .exit) ≡ laid (nextStretch size n (now (xs .entry))) (now (next .entry)) 1 n) ⌝ }
 {
     let mut p = n;

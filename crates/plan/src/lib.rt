@@ -96,7 +96,7 @@ fn search(
     r1: f32,
     share: f32,
 ) -> Found
-    requires { ⌜ (n ≤ 1024) × (1 ≤ most) × (most ≤ 64) × Tables size n (now xs) (now above) (now index_len) (now above_len) (now next) ⌝ }
+    requires { ⌜ (n ≤ 1024) × (1 ≤ most) × (most ≤ 64) × Tables size n (now xs) (now above) (now «index_len») (now «above_len») (now next) ⌝ }
     ensures { λ r. ⌜ r ≡ foundOf (planned (job size n most (now (xs .entry)) (priceIn (now (short .entry)) (now (full .entry)) r0 r1 share))) ⌝ }
 {
     let big = infinity();

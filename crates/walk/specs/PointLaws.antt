@@ -88,7 +88,7 @@ trail-rising pos st w (suc f) q k h m =
     let o : q ≡ 0 → ⊥ = eqb-false q 0 t in
     let l = w .lower q k (omega arith) in
     let i = trail-rising pos st w f (getD pos (slot q k) 0) (getD st (slot q k) false) (omega arith) (omega arith) in
-    rw t (rising-more 0 _ (getD pos (slot q k) 0) q k (i .0) (omega arith) (i .1) l m, all-more _ (getD pos (slot q k) 0) q k (i .1) (omega arith)))
+    rw t (rising-more 0 (trail pos st f (getD pos (slot q k) 0) (getD st (slot q k) false)) (getD pos (slot q k) 0) q k (i .0) (omega arith) (i .1) l m, all-more (trail pos st f (getD pos (slot q k) 0) (getD st (slot q k) false)) (getD pos (slot q k) 0) q k (i .1) (omega arith)))
   where
     all-more : (es : List Point) (p q : ℕ) (k : Bool) → All (λ (e : Point). e .place ≤ p) es → p ≤ q → All (λ (e : Point). e .place ≤ q) (es ++ (point q k ∷ []))
     all-more [] p q k a h = (le-refl q, tt)
