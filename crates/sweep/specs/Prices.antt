@@ -19,13 +19,20 @@ use Rattle.sums.specs.SumLaws.{run-from}
 use Rattle.syntax.specs.Runs.{mayCopy}
 use Rattle.paths.specs.Cells.{copies, indexLen, aboveLen, draws, sentFor, stopsAt}
 use Rattle.paths.specs.CellLaws.{above-zero, above-some}
-use Rattle.paths.specs.Plan.{Price, priceOf, job, Table, slot, placeOf, kindOf, infinite, flagRate, alphabetAt, headRate, drawCost, copyCost, relaxed, stopped, indexed, copied, stepped, swept}
+use Rattle.paths.specs.Plan.{Price, priceOf, Job, job, Table, slot, placeOf, kindOf, infinite, flagRate, alphabetAt, headRate, drawCost, copyCost, relaxed, stopped, indexed, copied, stepped, swept}
 use Rattle.paths.specs.Same.{Same}
 use Rattle.relax.specs.Jumps.{lengthFrom, copyFrom, drawn}
 use Rattle.relax.specs.JumpLaws.{Tables, drawn-is}
+use Rattle.sweep.specs.declared.Terms.{Terms}
 
 abbrev pub priceIn : List Float → List Float → Float → Float → Float → Price
 priceIn short full r0 r1 share = record { index = r0; above = r1; share = share; run = λ longest above sent more. runFrom short full (rowOf above sent) longest more }
+
+abbrev pub termsOf : ℕ → ℕ → ℕ → Float → Float → Float → Terms
+termsOf size n most r0 r1 share = record { size = size; n = n; most = most; r0 = r0; r1 = r1; share = share }
+
+abbrev pub jobIn : Terms → List ℕ → List Float → List Float → Job
+jobIn t xs short full = job (t .size) (t .n) (t .most) xs (priceIn short full (t .r0) (t .r1) (t .share))
 
 -- the tables of a model's sums give the model's prices
 pub prices-same : (m : RateModel) (most n : ℕ) (short full : List Float) (share : Float) → n ≤ 1024 → Sums m short full → share ≡ shareRate most

@@ -4,7 +4,7 @@ ghost use mathlib.Core.Bool.{Bool, true, false};
 ghost use mathlib.Core.List.{List, [], _∷_};
 ghost use Prim.Native.Nat.{ℕ, _+_, _*_, _≤_, _<_};
 ghost use lib.Dec.{ltb};
-ghost use lib.Ieee.{Float};
+ghost use lib.Ieee.{Float, binary32, add};
 ghost use lib.ListN.{getD};
 ghost use Rattle.base.specs.Pick.{pick};
 ghost use Rattle.base.specs.Tests.{every};
@@ -14,7 +14,9 @@ ghost use Rattle.paths.specs.Plan as P;
 ghost use Rattle.paths.specs.Plan.{tab, job};
 ghost use Rattle.relax.specs.JumpLaws.{Tables};
 ghost use Rattle.syntax.specs.Runs.{mayCopy};
-ghost use Rattle.sweep.specs.Prices.{priceIn, headFrom};
+ghost use Rattle.relax.specs.Jumps.{lengthFrom, Within, drawn};
+ghost use Rattle.sums.specs.Sums.{rowOf};
+ghost use Rattle.sweep.specs.Prices.{termsOf, priceIn, jobIn, headFrom};
 use cells::draws_from;
 use cells::reference_in;
 use cells::sent_from;
@@ -22,6 +24,29 @@ use rates::index_bits;
 use relax::copy;
 use relax::draw;
 use sums::row_of;
+
+// The size and the number of the cells, the greatest index, and what the runs' kinds and an index run's share of the count cost.
+struct Terms {
+    size: usize,
+    n: usize,
+    most: u32,
+    r0: f32,
+    r1: f32,
+    share: f32,
+}
+
+fn terms_of(size: usize, n: usize, most: u32, r0: f32, r1: f32, share: f32) -> Terms
+    ensures { λ r. ⌜ r ≡ termsOf size n most r0 r1 share ⌝ }
+{
+    Terms {
+        size,
+        n,
+        most,
+        r0,
+        r1,
+        share,
+    }
+}
 
 // Not reached.
 fn infinity() -> f32
@@ -65,21 +90,51 @@ fn alphabet_at(most: u32, p: usize) -> u32
 }
 
 // What an index run at p makes of the cost c, but for its length.
-fn head_bits(
-    size: usize,
-    n: usize,
-    most: u32,
-    r0: f32,
-    share: f32,
+fn head_bits(t: Terms, p: usize, k: bool, c: f32, sent: u32) -> f32
+    requires { ⌜ (p < t .n) × (1 ≤ t .most) × (t .most ≤ 64) ⌝ }
+    ensures { λ r. ⌜ r ≡ headFrom (t .size) (t .n) (t .most) (t .r0) (t .share) p k c sent ⌝ }
+{
+    let flag = flag_bits(t.size, t.n, p, k, t.r0);
+    c + flag + index_bits(sent, alphabet_at(t.most, p)) + t.share
+}
+
+// The index runs from p that send `sent`.
+fn draw_sent(
+    cost: &mut [f32; 2050],
+    pos: &mut [u16; 2050],
+    st: &mut [bool; 2050],
+    index_len: &[u16; 1026],
+    above_len: &[u16; 1026],
+    next: &[u16; 1026],
+    short: &[f32; 48],
+    full: &[f32; 48],
+    t: Terms,
     p: usize,
     k: bool,
     c: f32,
     sent: u32,
-) -> f32
-    requires { ⌜ (p < n) × (1 ≤ most) × (most ≤ 64) ⌝ }
-    ensures { λ r. ⌜ r ≡ headFrom size n most r0 share p k c sent ⌝ }
+)
+    requires { ⌜ (p < t .n) × (t .n ≤ 1024) × (1 ≤ t .most) × (t .most ≤ 64) × Within (now «index_len») (now «above_len») (now next) (t .n) p ⌝ }
+    ensures { λ _. ⌜ tab (now (cost .exit)) (now (pos .exit)) (now (st .exit))
+        ≡ drawn (now («index_len» .entry)) (now («above_len» .entry)) (now (next .entry)) (λ q. add binary32 (headFrom (t .size) (t .n) (t .most) (t .r0) (t .share) p k c sent) (lengthFrom (now (short .entry)) (now (full .entry)) (rowOf false sent) (t .n) p q)) p k (tab (now (cost .entry)) (now (pos .entry)) (now (st .entry))) ⌝ }
 {
-    c + flag_bits(size, n, p, k, r0) + index_bits(sent, alphabet_at(most, p)) + share
+    let head = head_bits(t, p, k, c, sent);
+    let row = row_of(false, sent);
+    draw(
+        cost,
+        pos,
+        st,
+        index_len,
+        above_len,
+        next,
+        short,
+        full,
+        row,
+        head,
+        t.n,
+        p,
+        k,
+    );
 }
 
 // The index runs from p, after a path of cost c whose last run is of kind k.
@@ -94,26 +149,19 @@ fn index_run(
     next: &[u16; 1026],
     short: &[f32; 48],
     full: &[f32; 48],
-    size: usize,
-    n: usize,
-    most: u32,
-    r0: f32,
-    share: f32,
+    t: Terms,
     p: usize,
     k: bool,
     c: f32,
 )
-    requires { ⌜ (p < n) × (n ≤ 1024) × (1 ≤ most) × (most ≤ 64) × Tables size n (now xs) (now above) (now «index_len») (now «above_len») (now next) ⌝ }
-    ensures { λ _. ⌜ ((r1 : Float) → tab (now (cost .exit)) (now (pos .exit)) (now (st .exit))
-        ≡ P.indexed (job size n most (now (xs .entry)) (priceIn (now (short .entry)) (now (full .entry)) r0 r1 share)) p k c (tab (now (cost .entry)) (now (pos .entry)) (now (st .entry)))) ⌝ }
+    requires { ⌜ (p < t .n) × (t .n ≤ 1024) × (1 ≤ t .most) × (t .most ≤ 64) × Tables (t .size) (t .n) (now xs) (now above) (now «index_len») (now «above_len») (now next) ⌝ }
+    ensures { λ _. ⌜ tab (now (cost .exit)) (now (pos .exit)) (now (st .exit))
+        ≡ P.indexed (jobIn t (now (xs .entry)) (now (short .entry)) (now (full .entry))) p k c (tab (now (cost .entry)) (now (pos .entry)) (now (st .entry))) ⌝ }
 {
     let v = xs[p];
     let f = reference_in(xs, above, p, k);
     if draws_from(p, v, f) {
-        let sent = sent_from(p, v, f);
-        let head = head_bits(size, n, most, r0, share, p, k, c, sent);
-        let row = row_of(false, sent);
-        draw(
+        draw_sent(
             cost,
             pos,
             st,
@@ -122,11 +170,11 @@ fn index_run(
             next,
             short,
             full,
-            row,
-            head,
-            n,
+            t,
             p,
             k,
+            c,
+            sent_from(p, v, f),
         );
     }
 }
@@ -139,29 +187,27 @@ fn above_run(
     above_len: &[u16; 1026],
     short: &[f32; 48],
     full: &[f32; 48],
-    size: usize,
-    n: usize,
-    r1: f32,
+    t: Terms,
     p: usize,
     k: bool,
     c: f32,
 )
-    requires { ⌜ (p < n) × (n ≤ 1024) × (p + getD (now «above_len») p 0 ≤ n) ⌝ }
-    ensures { λ _. ⌜ ((xs : List ℕ) (most : ℕ) (r0 share : Float) → getD (now («above_len» .entry)) p 0 ≡ aboveLen size n xs p
+    requires { ⌜ (p < t .n) × (t .n ≤ 1024) × (p + getD (now «above_len») p 0 ≤ t .n) ⌝ }
+    ensures { λ _. ⌜ ((xs : List ℕ) → getD (now («above_len» .entry)) p 0 ≡ aboveLen (t .size) (t .n) xs p
         → tab (now (cost .exit)) (now (pos .exit)) (now (st .exit))
-        ≡ P.copied (job size n most xs (priceIn (now (short .entry)) (now (full .entry)) r0 r1 share)) p k c (tab (now (cost .entry)) (now (pos .entry)) (now (st .entry)))) ⌝ }
+        ≡ P.copied (jobIn t xs (now (short .entry)) (now (full .entry))) p k c (tab (now (cost .entry)) (now (pos .entry)) (now (st .entry)))) ⌝ }
 {
     if k {
         return;
     }
-    if p < size {
+    if p < t.size {
         return;
     }
     let len = wide(above_len[p]);
     if len == 0 {
         return;
     }
-    copy(cost, pos, st, short, full, r1, n, p, k, c, len);
+    copy(cost, pos, st, short, full, t.r1, t.n, p, k, c, len);
 }
 
 // The runs that start at slot s, where some path ends.
@@ -176,17 +222,11 @@ fn step(
     next: &[u16; 1026],
     short: &[f32; 48],
     full: &[f32; 48],
-    size: usize,
-    n: usize,
-    most: u32,
-    r0: f32,
-    r1: f32,
-    share: f32,
+    t: Terms,
     s: usize,
 )
-    requires { ⌜ (s < n * 2) × (n ≤ 1024) × (1 ≤ most) × (most ≤ 64) × Tables size n (now xs) (now above) (now «index_len») (now «above_len») (now next) ⌝ }
-    ensures { λ _. ⌜ tab (now (cost .exit)) (now (pos .exit)) (now (st .exit))
-        ≡ P.stepped (job size n most (now (xs .entry)) (priceIn (now (short .entry)) (now (full .entry)) r0 r1 share)) s (tab (now (cost .entry)) (now (pos .entry)) (now (st .entry))) ⌝ }
+    requires { ⌜ (s < t .n * 2) × (t .n ≤ 1024) × (1 ≤ t .most) × (t .most ≤ 64) × Tables (t .size) (t .n) (now xs) (now above) (now «index_len») (now «above_len») (now next) ⌝ }
+    ensures { λ _. ⌜ tab (now (cost .exit)) (now (pos .exit)) (now (st .exit)) ≡ P.stepped (jobIn t (now (xs .entry)) (now (short .entry)) (now (full .entry))) s (tab (now (cost .entry)) (now (pos .entry)) (now (st .entry))) ⌝ }
 {
     let c = cost[s];
     if c < infinity() {
@@ -203,16 +243,50 @@ fn step(
             next,
             short,
             full,
-            size,
-            n,
-            most,
-            r0,
-            share,
+            t,
             p,
             k,
             c,
         );
-        above_run(cost, pos, st, above_len, short, full, size, n, r1, p, k, c);
+        above_run(cost, pos, st, above_len, short, full, t, p, k, c);
+    }
+}
+
+// Every slot below `end`, in order.
+fn slots(
+    cost: &mut [f32; 2050],
+    pos: &mut [u16; 2050],
+    st: &mut [bool; 2050],
+    xs: &[u8; 1024],
+    above: &[u8; 1024],
+    index_len: &[u16; 1026],
+    above_len: &[u16; 1026],
+    next: &[u16; 1026],
+    short: &[f32; 48],
+    full: &[f32; 48],
+    t: Terms,
+    end: usize,
+)
+    requires { ⌜ (end ≤ t .n * 2) × (t .n ≤ 1024) × (1 ≤ t .most) × (t .most ≤ 64) × Tables (t .size) (t .n) (now xs) (now above) (now «index_len») (now «above_len») (now next) ⌝ }
+    ensures { λ _. ⌜ tab (now (cost .exit)) (now (pos .exit)) (now (st .exit)) ≡ P.swept (jobIn t (now (xs .entry)) (now (short .entry)) (now (full .entry))) end (tab (now (cost .entry)) (now (pos .entry)) (now (st .entry))) ⌝ }
+{
+    let mut s: usize = 0;
+    while s < end {
+        step(
+            cost,
+            pos,
+            st,
+            xs,
+            above,
+            index_len,
+            above_len,
+            next,
+            short,
+            full,
+            t,
+            s,
+        );
+        s += 1;
     }
 }
 
@@ -239,27 +313,19 @@ pub fn sweep(
     ensures { λ _. ⌜ tab (now (cost .exit)) (now (pos .exit)) (now (st .exit))
         ≡ P.swept (job size n most (now (xs .entry)) (priceIn (now (short .entry)) (now (full .entry)) r0 r1 share)) (n * 2) (tab (now (cost .entry)) (now (pos .entry)) (now (st .entry))) ⌝ }
 {
-    let mut s: usize = 0;
-    while s < n * 2 {
-        step(
-            cost,
-            pos,
-            st,
-            xs,
-            above,
-            index_len,
-            above_len,
-            next,
-            short,
-            full,
-            size,
-            n,
-            most,
-            r0,
-            r1,
-            share,
-            s,
-        );
-        s += 1;
-    }
+    let t = terms_of(size, n, most, r0, r1, share);
+    slots(
+        cost,
+        pos,
+        st,
+        xs,
+        above,
+        index_len,
+        above_len,
+        next,
+        short,
+        full,
+        t,
+        n * 2,
+    );
 }

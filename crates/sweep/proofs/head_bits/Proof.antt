@@ -21,11 +21,11 @@ alphabet-at-requires : tie.Need-alphabet-at-requires
 alphabet-at-requires c κs = search needs
 
 index-bits-requires : tie.Need-index-bits-requires
-index-bits-requires c κs = rw (c .alphabet-at .ensures) (alphabet-in (c .before .before .args .most) (c .before .before .args .p) (c .before .before .pre .1) (c .before .before .pre .2))
+index-bits-requires c κs = rw (c .alphabet-at .ensures) (alphabet-in (c .before .before .args .t .most) (c .before .before .args .p) (c .before .before .pre .1) (c .before .before .pre .2))
 
 returns : tie.Need-returns
 unfolding headFrom
-returns c = rw (c .before .before .flag-bits .ensures, c .index-bits .ensures, c .before .alphabet-at .ensures)
+returns c = rw (c .before .before .before .flag-bits .ensures, c .before .index-bits .ensures, c .before .before .alphabet-at .ensures)
 
 pub head-bits-spec : {M : Type 1} → statement M
 head-bits-spec =

@@ -6,6 +6,7 @@ use lib.ListN.{getD}
 use borrow.Author.Tests.{lt-ltb, le-ltb, eq-eqb, ne-eqb, le-leb, lt-leb}
 use lib.Ieee.{Float}
 use Rattle.cells.specs.Steps.{draws-in, sent-in}
+use Rattle.paths.specs.Plan.{tab}
 use Rattle.relax.specs.JumpLaws.{tables-within}
 use Rattle.sweep.specs.Prices.{index-yes, index-no}
 use borrow.Author.Needs.{needs}
@@ -16,9 +17,7 @@ use Rattle.sweep.proofs.index_run.Lts as lts
 use Rattle.cells.proofs.draws_from.Reads as draws-from-reads
 use Rattle.cells.proofs.reference_in.Reads as reference-in-reads
 use Rattle.cells.proofs.sent_from.Reads as sent-from-reads
-use Rattle.relax.proofs.draw.Reads as draw-reads
-use Rattle.sums.proofs.row_of.Reads as row-of-reads
-use Rattle.sweep.proofs.head_bits.Reads as head-bits-reads
+use Rattle.sweep.proofs.draw_sent.Reads as draw-sent-reads
 
 element-copy-out-v : tie.Need-element-copy-out-v
 element-copy-out-v c = search needs
@@ -32,27 +31,25 @@ draws-from-requires c κs = search needs
 sent-from-requires : tie.Need-sent-from-requires
 sent-from-requires c κs = search needs
 
-head-bits-requires : tie.Need-head-bits-requires
-head-bits-requires c κs = search needs
-
-row-of-requires : tie.Need-row-of-requires
-row-of-requires c κs = search needs
-
-draw-requires : tie.Need-draw-requires
-draw-requires c κs = (omega (arith, c .before .before .before .row-of .ensures .1), omega arith, tables-within _ _ _ _ _ _ _ (c .before .before .before .before .before .before .before .before .before .before .pre .4) _ (c .before .before .before .before .before .before .before .before .before .before .pre .0))
+draw-sent-requires : tie.Need-draw-sent-requires
+draw-sent-requires c κs =
+    let g = c .before .before .before .before .before .before .before .before .args in
+    (c .before .before .before .before .before .before .before .before .pre .0, c .before .before .before .before .before .before .before .before .pre .1, c .before .before .before .before .before .before .before .before .pre .2, c .before .before .before .before .before .before .before .before .pre .3, tables-within (g .t .size) (g .t .n) (g .xs .now) (g .above .now) (g .index-len .now) (g .above-len .now) (g .next .now) (c .before .before .before .before .before .before .before .before .pre .4) (g .p) (c .before .before .before .before .before .before .before .before .pre .0))
 
 returns : tie.Need-returns
-returns c = λ r1.
-    let w = c .before .before .before .before .before .before .before .before .before .before .before .pre .4 .above-is (c .before .before .before .before .before .before .before .before .before .before .before .args .p) (c .before .before .before .before .before .before .before .before .before .before .before .pre .0) in
-    let d = sym (draws-in _ _ _ (c .before .before .before .before .before .before .before .before .before .before .before .args .p) (c .before .before .before .before .before .before .before .before .before .before .before .args .k) w) ∙ sym (rw (c .before .before .before .before .before .before .before .before .before .reference-in .ensures) at (c .before .before .before .before .before .before .before .before .draws-from .ensures)) ∙ c .before .before .before .before .before .before .before .if1 .taken in
-    let s = (rw (c .before .before .before .before .before .before .before .before .before .reference-in .ensures) at (c .before .before .before .before .before .before .sent-from .ensures)) ∙ sent-in _ _ _ (c .before .before .before .before .before .before .before .before .before .before .before .args .p) (c .before .before .before .before .before .before .before .before .before .before .before .args .k) w in
-    c .draw .ensures ∙ rw (c .before .before .before .before .before .head-bits .ensures, c .before .before .before .before .row-of .ensures .0, s) (index-yes _ _ _ _ _ _ _ _ _ _ _ r1 _ _ _ _ _ (c .before .before .before .before .before .before .before .before .before .before .before .pre .4) (c .before .before .before .before .before .before .before .before .before .before .before .pre .0) d)
+returns c =
+    let g = c .before .before .before .before .before .before .before .before .before .args in
+    let w = c .before .before .before .before .before .before .before .before .before .pre .4 .above-is (g .p) (c .before .before .before .before .before .before .before .before .before .pre .0) in
+    let d = sym (draws-in (g .t .size) (g .xs .now) (g .above .now) (g .p) (g .k) w) ∙ sym (rw (c .before .before .before .before .before .before .before .reference-in .ensures) at (c .before .before .before .before .before .before .draws-from .ensures)) ∙ c .before .before .before .before .before .if1 .taken in
+    let s = (rw (c .before .before .before .before .before .before .before .reference-in .ensures) at (c .before .sent-from .ensures)) ∙ sent-in (g .t .size) (g .xs .now) (g .above .now) (g .p) (g .k) w in
+    c .draw-sent .ensures ∙ rw s (index-yes (g .t .size) (g .t .n) (g .t .most) (g .xs .now) (g .above .now) (g .index-len .now) (g .above-len .now) (g .next .now) (g .short .now) (g .full .now) (g .t .r0) (g .t .r1) (g .t .share) (g .p) (g .k) (g .c) (tab (g .cost .now) (g .pos .now) (g .st .now)) (c .before .before .before .before .before .before .before .before .before .pre .4) (c .before .before .before .before .before .before .before .before .before .pre .0) d)
 
 returns-2 : tie.Need-returns-2
-returns-2 c = λ r1.
-    let w = c .before .before .before .before .pre .4 .above-is (c .before .before .before .before .args .p) (c .before .before .before .before .pre .0) in
-    let d = sym (draws-in _ _ _ (c .before .before .before .before .args .p) (c .before .before .before .before .args .k) w) ∙ sym (rw (c .before .before .reference-in .ensures) at (c .before .draws-from .ensures)) ∙ c .if1 .left in
-    index-no _ _ _ _ _ _ _ r1 _ _ _ _ _ d
+returns-2 c =
+    let g = c .before .before .before .before .args in
+    let w = c .before .before .before .before .pre .4 .above-is (g .p) (c .before .before .before .before .pre .0) in
+    let d = sym (draws-in (g .t .size) (g .xs .now) (g .above .now) (g .p) (g .k) w) ∙ sym (rw (c .before .before .reference-in .ensures) at (c .before .draws-from .ensures)) ∙ c .if1 .left in
+    index-no (g .t .size) (g .t .n) (g .t .most) (g .xs .now) (g .short .now) (g .full .now) (g .t .r0) (g .t .r1) (g .t .share) (g .p) (g .k) (g .c) (tab (g .cost .now) (g .pos .now) (g .st .now)) d
 
 pub index-run-spec : {M : Type 1} → statement M
 index-run-spec =
@@ -62,8 +59,6 @@ index-run-spec =
     reference-in-requires
     draws-from-requires
     sent-from-requires
-    head-bits-requires
-    row-of-requires
-    draw-requires
+    draw-sent-requires
     returns
     returns-2)
