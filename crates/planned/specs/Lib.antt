@@ -1,4 +1,1 @@
-pub mod Reach
-pub mod Covers
-pub mod Least
 pub mod Planning

@@ -15,8 +15,8 @@ use Rattle.rates.specs.Rates.{ratesIn}
 use Rattle.sums.specs.Finite.{type-upto, run-upto, shares-upto}
 use Rattle.syntax.specs.Replay.{Replays, replay}
 use Rattle.paths.specs.Plan.{priceOf, infinite, planned}
-use Rattle.planned.specs.Reach.{Fair}
-use Rattle.planned.specs.Covers.{planned-rules, planned-replay, total-finite}
+use Rattle.covers.specs.Reach.{Fair}
+use Rattle.covers.specs.Covers.{planned-rules, planned-replay, total-finite}
 use Rattle.plan.specs.Answer.{jobOf}
 use Rattle.plan.specs.AnswerLaws.{most-in}
 
