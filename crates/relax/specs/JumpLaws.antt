@@ -130,5 +130,5 @@ module _ (size n : ℕ) (xs above il al ss : List ℕ) (t : Tables size n xs abo
       (λ l. first-stops (omega arith))
       (λ i a b r c d. next-none size n xs p (i + 1) r (omega (arith, first-after)) c (rw (t .ss-is (i + 1) (omega arith) (omega arith)) at d))
       (λ i a b c. rw (t .ss-is (i + 1) (omega arith) (omega arith)) (next-stops size n xs p (i + 1) (omega (arith, first-after)) (omega arith) (omega (arith, rw (t .ss-is (i + 1) (omega arith) (omega arith)) at c))))
-      ∙ sym (stopped-skip (stopsAt size xs p) g p k (p + indexLen n xs p) (p + 1) (firstStop al ss p) u first-after (λ i a b. first-none n (omega arith) i a b)) in
+      ∙ sym (stopped-skip (stopsAt size xs p) g p k (p + indexLen n xs p) (p + 1) (firstStop al ss p) u (omega (arith, first-after)) (λ i a b. first-none n (omega arith) i a b)) in
       rw (t .il-is p ph, e)

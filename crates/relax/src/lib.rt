@@ -49,7 +49,7 @@ fn wide(x: u16) -> usize
 // Where an index run from p may stop first.
 fn first_stop(above_len: &[u16; 1026], next: &[u16; 1026], p: usize) -> usize
     requires { ⌜ p < 1024 ⌝ }
-    ensures { λ r. ⌜ r ≡ firstStop (now (above_len .entry)) (now (next .entry)) p ⌝ }
+    ensures { λ r. ⌜ r ≡ firstStop (now («above_len» .entry)) (now (next .entry)) p ⌝ }
 {
     let len = above_len[p + 1];
     if len == 0 {
@@ -102,9 +102,9 @@ pub fn draw(
     p: usize,
     k: bool,
 )
-    requires { ⌜ (row < 4) × (n ≤ 1024) × Within (now index_len) (now above_len) (now next) n p ⌝ }
+    requires { ⌜ (row < 4) × (n ≤ 1024) × Within (now «index_len») (now «above_len») (now next) n p ⌝ }
     ensures { λ _. ⌜ tab (now (cost .exit)) (now (pos .exit)) (now (st .exit))
-        ≡ drawn (now (index_len .entry)) (now (above_len .entry)) (now (next .entry)) (λ q. add binary32 head (lengthFrom (now (short .entry)) (now (full .entry)) row n p q)) p k (tab (now (cost .entry)) (now (pos .entry)) (now (st .entry))) ⌝ }
+        ≡ drawn (now («index_len» .entry)) (now («above_len» .entry)) (now (next .entry)) (λ q. add binary32 head (lengthFrom (now (short .entry)) (now (full .entry)) row n p q)) p k (tab (now (cost .entry)) (now (pos .entry)) (now (st .entry))) ⌝ }
 {
     let end = p + wide(index_len[p]);
     let first = first_stop(above_len, next, p);
