@@ -103,7 +103,7 @@ fn index_run(
     k: bool,
     c: f32,
 )
-    requires { ⌜ (p < n) × (n ≤ 1024) × (1 ≤ most) × (most ≤ 64) × Tables size n (now xs) (now above) (now index_len) (now above_len) (now next) ⌝ }
+    requires { ⌜ (p < n) × (n ≤ 1024) × (1 ≤ most) × (most ≤ 64) × Tables size n (now xs) (now above) (now «index_len») (now «above_len») (now next) ⌝ }
     ensures { λ _. ⌜ ((r1 : Float) → tab (now (cost .exit)) (now (pos .exit)) (now (st .exit))
         ≡ P.indexed (job size n most (now (xs .entry)) (priceIn (now (short .entry)) (now (full .entry)) r0 r1 share)) p k c (tab (now (cost .entry)) (now (pos .entry)) (now (st .entry)))) ⌝ }
 {
@@ -146,8 +146,8 @@ fn above_run(
     k: bool,
     c: f32,
 )
-    requires { ⌜ (p < n) × (n ≤ 1024) × (p + getD (now above_len) p 0 ≤ n) ⌝ }
-    ensures { λ _. ⌜ ((xs : List ℕ) (most : ℕ) (r0 share : Float) → getD (now (above_len .entry)) p 0 ≡ aboveLen size n xs p
+    requires { ⌜ (p < n) × (n ≤ 1024) × (p + getD (now «above_len») p 0 ≤ n) ⌝ }
+    ensures { λ _. ⌜ ((xs : List ℕ) (most : ℕ) (r0 share : Float) → getD (now («above_len» .entry)) p 0 ≡ aboveLen size n xs p
         → tab (now (cost .exit)) (now (pos .exit)) (now (st .exit))
         ≡ P.copied (job size n most xs (priceIn (now (short .entry)) (now (full .entry)) r0 r1 share)) p k c (tab (now (cost .entry)) (now (pos .entry)) (now (st .entry)))) ⌝ }
 {
@@ -184,7 +184,7 @@ fn step(
     share: f32,
     s: usize,
 )
-    requires { ⌜ (s < n * 2) × (n ≤ 1024) × (1 ≤ most) × (most ≤ 64) × Tables size n (now xs) (now above) (now index_len) (now above_len) (now next) ⌝ }
+    requires { ⌜ (s < n * 2) × (n ≤ 1024) × (1 ≤ most) × (most ≤ 64) × Tables size n (now xs) (now above) (now «index_len») (now «above_len») (now next) ⌝ }
     ensures { λ _. ⌜ tab (now (cost .exit)) (now (pos .exit)) (now (st .exit))
         ≡ P.stepped (job size n most (now (xs .entry)) (priceIn (now (short .entry)) (now (full .entry)) r0 r1 share)) s (tab (now (cost .entry)) (now (pos .entry)) (now (st .entry))) ⌝ }
 {
@@ -235,7 +235,7 @@ pub fn sweep(
     r1: f32,
     share: f32,
 )
-    requires { ⌜ (n ≤ 1024) × (1 ≤ most) × (most ≤ 64) × Tables size n (now xs) (now above) (now index_len) (now above_len) (now next) ⌝ }
+    requires { ⌜ (n ≤ 1024) × (1 ≤ most) × (most ≤ 64) × Tables size n (now xs) (now above) (now «index_len») (now «above_len») (now next) ⌝ }
     ensures { λ _. ⌜ tab (now (cost .exit)) (now (pos .exit)) (now (st .exit))
         ≡ P.swept (job size n most (now (xs .entry)) (priceIn (now (short .entry)) (now (full .entry)) r0 r1 share)) (n * 2) (tab (now (cost .entry)) (now (pos .entry)) (now (st .entry))) ⌝ }
 {
