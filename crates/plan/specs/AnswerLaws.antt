@@ -17,7 +17,7 @@ use Rattle.model.specs.Whole.{maxIndex, blockSizeIn, holds}
 use Rattle.model.specs.WholeLaws.{whole}
 use Rattle.rates.specs.declared.RateModel.{RateModel}
 use Rattle.rates.specs.Rates.{ratesIn}
-use Rattle.paths.specs.Plan.{planned}
+use Rattle.paths.specs.Plan.{job, priceOf, planned}
 use Rattle.cheapest.specs.declared.Found.{Found}
 use Rattle.cheapest.specs.Found.{blankRuns, foundOf}
 use Rattle.plan.specs.declared.Plan.{Plan}
@@ -40,11 +40,23 @@ module _ (cu : PaletteCu) (m : RateModel) (room : ℕ) where
   unfolding answerFor
   answer-some d = rw (runs-some d, ne-eqb (maxIndex cu) 0 d)
 
-  pub block-short : (f : Found) → (maxIndex cu ≡ 0 → ⊥) → f ≡ foundOf (planned (jobOf cu m)) → room < f .count → refusedWith 9 ≡ blockPlan cu m room
-  block-short f d e h = let l : room < length (planned (jobOf cu m) .runs) = rw e at h in rw (runs-some d, lt-leb (length (planned (jobOf cu m) .runs)) room l)
+  -- what is found for M, which the code has as k
+  found-for : (f : Found) (k : ℕ) → k ≡ maxIndex cu → f ≡ foundOf (planned (job (cu .size) (cu .size * cu .size) k (cu .indices) (priceOf m k))) → f ≡ foundOf (planned (jobOf cu m))
+  found-for f k e h = h ∙ ap (λ (x : ℕ). foundOf (planned (job (cu .size) (cu .size * cu .size) x (cu .indices) (priceOf m x)))) e
 
-  pub block-runs : (f : Found) → (maxIndex cu ≡ 0 → ⊥) → f ≡ foundOf (planned (jobOf cu m)) → f .count ≤ room → record { answer = Runs (f .count) (f .total); runs = f .runs } ≡ blockPlan cu m room
-  block-runs f d e h = let l : length (planned (jobOf cu m) .runs) ≤ room = rw e at h in rw (e, runs-some d, answer-some d, le-leb (length (planned (jobOf cu m) .runs)) room l)
+  some : (k : ℕ) → k ≡ maxIndex cu → (k ≡ 0 → ⊥) → maxIndex cu ≡ 0 → ⊥
+  some k e d z = d (e ∙ z)
+
+  pub block-short : (f : Found) (k : ℕ) → k ≡ maxIndex cu → (k ≡ 0 → ⊥) → f ≡ foundOf (planned (job (cu .size) (cu .size * cu .size) k (cu .indices) (priceOf m k))) → room < f .count → refusedWith 9 ≡ blockPlan cu m room
+  block-short f k e d h l =
+      let o : room < length (planned (jobOf cu m) .runs) = rw (found-for f k e h) at l in
+      rw (runs-some (some k e d), lt-leb (length (planned (jobOf cu m) .runs)) room o)
+
+  pub block-runs : (f : Found) (k : ℕ) → k ≡ maxIndex cu → (k ≡ 0 → ⊥) → f ≡ foundOf (planned (job (cu .size) (cu .size * cu .size) k (cu .indices) (priceOf m k))) → f .count ≤ room
+      → record { answer = Runs (f .count) (f .total); runs = f .runs } ≡ blockPlan cu m room
+  block-runs f k e d h l =
+      let o : length (planned (jobOf cu m) .runs) ≤ room = rw (found-for f k e h) at l in
+      rw (found-for f k e h, runs-some (some k e d), answer-some (some k e d), le-leb (length (planned (jobOf cu m) .runs)) room o)
 
   -- ---- the tests, in their order
 
@@ -63,6 +75,10 @@ module _ (cu : PaletteCu) (m : RateModel) (room : ℕ) where
   pub block-is : blockSizeIn cu ≡ true → ratesIn m ≡ true → holds 64 cu ≡ true → blockPlan cu m room ≡ planOf cu m room
   unfolding planOf
   block-is a b c = rw (a, b, c) (either (leb (length (runsFor cu m)) room) (λ t. rw t) (λ t. rw t))
+
+pub max-index : (cu : PaletteCu) (k : ℕ) → k ≡ cu .«palette_size» + bit (cu .«escape_present») - 1 → k ≡ maxIndex cu
+unfolding maxIndex
+max-index cu k e = e
 
 pub most-in : (cu : PaletteCu) → holds 64 cu ≡ true → maxIndex cu ≤ 64
 unfolding maxIndex
