@@ -105,7 +105,7 @@ module _ (j : Job) (nh : j .n ≤ 1024) (mh : j .most ≤ 64) (m1 : 1 ≤ j .mos
       (fair .share)
 
   -- a run adds at most 1024
-  cost-upto : (p : ℕ) (l : Bool) (c : Float) (q : ℕ) (k : Bool) → p < q → q ≤ j .n → Upto (1024 * p) c → Upto (1024 * q) (costOf j p l c q k)
+  pub cost-upto : (p : ℕ) (l : Bool) (c : Float) (q : ℕ) (k : Bool) → p < q → q ≤ j .n → Upto (1024 * p) c → Upto (1024 * q) (costOf j p l c q k)
   unfolding drawCost copyCost
   cost-upto p l c q false low high u =
       weaken (1024 * p + 64 + 7 + 1 + 800) (1024 * q) _ (omega arith)
