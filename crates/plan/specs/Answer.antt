@@ -4,9 +4,7 @@ use mathlib.Core.Bool.{Bool, true, false}
 use mathlib.Core.List.{List, [], _∷_}
 use Prim.Native.Nat.{ℕ, _*_}
 use lib.Dec.{eqb, leb}
-use lib.Ieee.{Float}
-use lib.ListN.{length, replicate}
-use lib.Seq.{sets}
+use lib.ListN.{length}
 use Rattle.base.specs.Pick.{pick}
 use Rattle.base.specs.Tests.{refusal}
 use Rattle.model.specs.declared.PaletteCu.{PaletteCu}
@@ -15,9 +13,7 @@ use Rattle.model.specs.Whole.{maxIndex, blockSizeIn, holds}
 use Rattle.rates.specs.declared.RateModel.{RateModel}
 use Rattle.rates.specs.Rates.{ratesIn}
 use Rattle.paths.specs.Plan.{Job, job, priceOf, planned}
-use Rattle.paths.specs.Plan as P
-use Rattle.walk.specs.Points.{noRun}
-use Rattle.plan.specs.declared.Found.{Found}
+use Rattle.cheapest.specs.Found.{laidRuns}
 use Rattle.plan.specs.declared.Plan.{Plan}
 use Rattle.plan.specs.declared.Planned.{Planned}
 use Rattle.plan.specs.declared.Planned.the-variants.{Nothing, Runs, Refused}
@@ -25,19 +21,6 @@ use Rattle.plan.specs.declared.Planned.the-variants.{Nothing, Runs, Refu
 -- a block's cells, M and prices
 abbrev pub jobOf : PaletteCu → RateModel → Job
 jobOf cu m = job (cu .size) (cu .size * cu .size) (maxIndex cu) (cu .indices) (priceOf m (maxIndex cu))
-
-abbrev pub blankRuns : List PaletteRun
-blankRuns = replicate 1024 noRun
-
--- the runs at the front of 1024, of which the rest are blank
-abbrev pub laidRuns : List PaletteRun → List PaletteRun
-laidRuns rs = sets blankRuns 0 rs
-
-abbrev pub found : Float → List PaletteRun → Found
-found total rs = record { count = length rs; total = total; runs = laidRuns rs }
-
-abbrev pub foundOf : P.Planned → Found
-foundOf w = found (w .total) (w .runs)
 
 abbrev pub planWith : Planned → List PaletteRun → Plan
 planWith a rs = record { answer = a; runs = laidRuns rs }

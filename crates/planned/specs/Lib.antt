@@ -1,4 +1,3 @@
-pub mod Reach
-pub mod Covers
-pub mod Least
+pub mod Front
 pub mod Planning
+pub mod Answered

@@ -1,1 +1,1 @@
-// What is promised of the planned runs of every block. Theorems only, in specs/.
+// What is promised of the plan of every block. Theorems only, in specs/.

@@ -23,7 +23,7 @@ use Rattle.paths.specs.CellLaws.{copies-row, copies-same, draws-differs, refere
 use Rattle.paths.specs.Plan.{Price, Job, Table, Point, point, slot, infinite, swept, fresh, trail, runTo, runsOf, endCost, lastKind, planned}
 use Rattle.paths.specs.Edges.{Copy, Draw, Edge, edge-low, edge-high}
 use Rattle.paths.specs.TableLaws.{costAt, fromPlace, fromKind, Reached}
-use Rattle.planned.specs.Reach.{Fair, Kept, reached-upto, done-kept, done-reached}
+use Rattle.covers.specs.Reach.{Fair, Kept, reached-upto, done-kept, done-reached}
 
 -- ---- the end that is chosen is reached
 
@@ -88,7 +88,7 @@ Path j p l [] q k = (p ≡ q) × (l ≡ k)
 Path j p l (e ∷ es) q k = Edge j p l (e .place) (e .kind) × Path j (e .place) (e .kind) es q k
 
 path-more : (j : Job) (p : ℕ) (l : Bool) (es : List Point) (q : ℕ) (k : Bool) (x : ℕ) (y : Bool) → Path j p l es q k → Edge j q k x y → Path j p l (es ++ (point x y ∷ [])) x y
-path-more j p l [] q k x y h e = (rw (h .0, h .1) e, refl, refl)
+path-more j p l [] q k x y h e = (rw (h .0, h .1) e, (refl, refl))
 path-more j p l (o ∷ es) q k x y h e = (h .0, path-more j (o .place) (o .kind) es q k x y (h .1) e)
 
 pub trail-path : (j : Job) (t : Table) → Kept j t → (f q : ℕ) (k : Bool) → q ≤ f → q ≤ j .n → Reached t q k → Path j 0 false (trail (t .pos) (t .st) f q k) q k
@@ -136,11 +136,11 @@ module _ (j : Job) (s1 : 1 ≤ j .size) (few : Indices j) where
   unfolding lessOne
   less-below v r m a b d = either (ltb r v) (λ t. rw t (omega (arith, ltb-true r v t))) (λ t. rw t (strict (ltb-false r v t)))
     where
-      strict : v ≤ r → v < m
-      strict o = omega (arith, differ o)
-
       differ : v ≤ r → v < r
       differ o = omega arith
+
+      strict : v ≤ r → v < m
+      strict o = omega (arith, differ o)
 
   sent-first : (p : ℕ) (k : Bool) → p ≡ 0 → sentFor (j .size) (j .xs) p k ≡ getD (j .xs) p 0
   unfolding sentFrom
@@ -180,20 +180,20 @@ module _ (j : Job) (s1 : 1 ≤ j .size) (few : Indices j) where
   }
 
   pub path-replays : (p : ℕ) (l : Bool) (es : List Point) (k : Bool) → Path j p l es (j .n) k → Replays (j .size) (j .n) (j .most) (take (j .n) (j .xs)) p l (runsOf (j .size) (j .xs) p l es)
-  unfolding runsOf
+  unfolding runsOf runTo
   path-replays p l [] k h = h .0
   path-replays p l (e ∷ es) k h =
       let low = edge-low j p l (e .place) (e .kind) (h .0) in
       let z : p + (e .place - p - 1) + 1 ≡ e .place = omega arith in
       (run-rules p l (e .place) (e .kind) (h .0), on z (path-replays (e .place) (e .kind) es k (h .1)))
     where
-      on : p + (e .place - p - 1) + 1 ≡ e .place → Replays (j .size) (j .n) (j .most) (take (j .n) (j .xs)) (e .place) (e .kind) (runsOf (j .size) (j .xs) (e .place) (e .kind) es)
-          → Replays (j .size) (j .n) (j .most) (take (j .n) (j .xs)) (p + runTo (j .size) (j .xs) p l e .more + 1) (runTo (j .size) (j .xs) p l e .above) (runsOf (j .size) (j .xs) (e .place) (e .kind) es)
-      on z r = on-more e z r
-
       on-more : (e : Point) → p + (e .place - p - 1) + 1 ≡ e .place → Replays (j .size) (j .n) (j .most) (take (j .n) (j .xs)) (e .place) (e .kind) (runsOf (j .size) (j .xs) (e .place) (e .kind) es)
           → Replays (j .size) (j .n) (j .most) (take (j .n) (j .xs)) (p + runTo (j .size) (j .xs) p l e .more + 1) (runTo (j .size) (j .xs) p l e .above) (runsOf (j .size) (j .xs) (e .place) (e .kind) es)
       on-more e z r = rw z r
+
+      on : p + (e .place - p - 1) + 1 ≡ e .place → Replays (j .size) (j .n) (j .most) (take (j .n) (j .xs)) (e .place) (e .kind) (runsOf (j .size) (j .xs) (e .place) (e .kind) es)
+          → Replays (j .size) (j .n) (j .most) (take (j .n) (j .xs)) (p + runTo (j .size) (j .xs) p l e .more + 1) (runTo (j .size) (j .xs) p l e .above) (runsOf (j .size) (j .xs) (e .place) (e .kind) es)
+      on z r = on-more e z r
 
 -- ---- the plan
 

@@ -6,7 +6,7 @@ use mathlib.Core.Logic.{_⊎_, inl, inr, ⊎-elim}
 use Prim.Native.Nat.{ℕ, zero, suc, _+_, _*_, _-_, _/_, _%_, _≤_, _<_}
 use native.Mathlib.Nat.{le-refl}
 use native.Mathlib.Omega.{arith}
-use lib.Dec.{eqb, lit≤}
+use lib.Dec.{eqb, ltb, lit≤}
 use lib.Ieee.{Float, nan, inf, fin, lt, add, binary32, ofInt}
 use lib.ListN.{getD, set, length, replicate, getD-replicate}
 use lib.Seq.{getD-set-other}
@@ -100,19 +100,19 @@ module _ (j : Job) (nh : j .n ≤ 1024) (mh : j .most ≤ 64) (m1 : 1 ≤ j .mos
   head-upto p l c b h u =
       add-upto (b + 64 + 7) 1 _ _ (omega arith)
       (add-upto (b + 64) 7 _ _ (omega arith)
-      (add-upto b 64 _ _ (omega arith) u (pick-upto _ 64 _ (fair .index)))
-      (index-upto (alphabetAt (j .most) p) _ (alphabet-low (eqb p 0)) (alphabet-high (eqb p 0))))
+      (add-upto b 64 _ _ (omega arith) u (pick-upto (every (mayCopy (j .size) p l ∷ ltb (p + 1) (j .n) ∷ [])) 64 _ (fair .index)))
+      (index-upto (alphabetAt (j .most) p) (sentFor (j .size) (j .xs) p l) (alphabet-low (eqb p 0)) (alphabet-high (eqb p 0))))
       (fair .share)
 
   -- a run adds at most 1024
-  cost-upto : (p : ℕ) (l : Bool) (c : Float) (q : ℕ) (k : Bool) → p < q → q ≤ j .n → Upto (1024 * p) c → Upto (1024 * q) (costOf j p l c q k)
+  pub cost-upto : (p : ℕ) (l : Bool) (c : Float) (q : ℕ) (k : Bool) → p < q → q ≤ j .n → Upto (1024 * p) c → Upto (1024 * q) (costOf j p l c q k)
   unfolding drawCost copyCost
   cost-upto p l c q false low high u =
       weaken (1024 * p + 64 + 7 + 1 + 800) (1024 * q) _ (omega arith)
-      (add-upto (1024 * p + 64 + 7 + 1) 800 _ _ (omega arith) (head-upto p l c (1024 * p) (omega arith) u) (pick-zero _ 800 _ (fair .run _ false _ _ (omega arith) (omega arith))))
+      (add-upto (1024 * p + 64 + 7 + 1) 800 _ _ (omega arith) (head-upto p l c (1024 * p) (omega arith) u) (pick-zero (eqb q (j .n)) 800 _ (fair .run (j .n - p - 1) false (sentFor (j .size) (j .xs) p l) (q - p - 1) (omega arith) (omega arith))))
   cost-upto p l c q true low high u =
       weaken (1024 * p + (64 + 800)) (1024 * q) _ (omega arith)
-      (add-upto (1024 * p) (64 + 800) _ _ (omega arith) u (pick-zero _ (64 + 800) _ (add-upto 64 800 _ _ (lit≤ tt) (fair .above) (fair .run _ true _ _ (omega arith) (omega arith)))))
+      (add-upto (1024 * p) (64 + 800) _ _ (omega arith) u (pick-zero (eqb q (j .n)) (64 + 800) _ (add-upto 64 800 _ _ (lit≤ tt) (fair .above) (fair .run (j .n - p - 1) true 0 (q - p - 1) (omega arith) (omega arith)))))
 
   -- ---- one slot's offers
 
@@ -155,7 +155,7 @@ module _ (j : Job) (nh : j .n ≤ 1024) (mh : j .most ≤ 64) (m1 : 1 ≤ j .mos
     begun : Kept j t₀ → Going t₀ t₀
     begun i = record { kept = i; still = λ q k r. r }
 
-    pub after-going : Kept j t₀ → Going t₀ after
+    after-going : Kept j t₀ → Going t₀ after
     unfolding after
     after-going i = both-keep j p l (costAt t₀ p l) ph (Going t₀) going-one t₀ (begun i)
 
@@ -200,6 +200,12 @@ module _ (j : Job) (nh : j .n ≤ 1024) (mh : j .most ≤ 64) (m1 : 1 ≤ j .mos
     leaving : Kept j t₀ → (draws (j .size) (j .xs) p l ≡ true) ⊎ ((mayCopy (j .size) p l ≡ true) × (copies (j .size) (j .xs) p ≡ true))
     leaving i = ⊎-elim (λ z. inl (draws-first (j .size) (j .xs) p l (z .0))) (λ o. from l (fromPlace t₀ p l) (fromKind t₀ p l) (o .1)) (i .back p l (omega arith) here)
       where
+        after-copy : getD (j .xs) p 0 ≡ reference (j .size) true (j .xs) p → getD (j .xs) p 0 ≡ aboveAt (j .size) (j .xs) p
+        after-copy s = s ∙ reference-above (j .size) (j .xs) p
+
+        after-draw : getD (j .xs) p 0 ≡ reference (j .size) false (j .xs) p → getD (j .xs) p 0 ≡ getD (j .xs) (p - 1) 0
+        after-draw s = s ∙ reference-before (j .size) (j .xs) p
+
         from : (l : Bool) (a : ℕ) (b : Bool) → Edge j a b p l → (draws (j .size) (j .xs) p l ≡ true) ⊎ ((mayCopy (j .size) p l ≡ true) × (copies (j .size) (j .xs) p ≡ true))
         from true a b e =
             let c = e .ends ph in
@@ -210,12 +216,6 @@ module _ (j : Job) (nh : j .n ≤ 1024) (mh : j .most ≤ 64) (m1 : 1 ≤ j .mos
             (λ d. inl (draws-yes (j .size) (j .xs) p false (omega (arith, e .low)) (λ s. d (after-draw s ∙ e .cells (p - 1) (omega (arith, e .low)) (omega (arith, e .low))))))
             (λ c. inr (le-leb (j .size) p (copies-row (j .size) (j .xs) p c), c))
             (e .ends ph)
-
-        after-copy : getD (j .xs) p 0 ≡ reference (j .size) true (j .xs) p → getD (j .xs) p 0 ≡ aboveAt (j .size) (j .xs) p
-        after-copy s = s ∙ reference-above (j .size) (j .xs) p
-
-        after-draw : getD (j .xs) p 0 ≡ reference (j .size) false (j .xs) p → getD (j .xs) p 0 ≡ getD (j .xs) (p - 1) 0
-        after-draw s = s ∙ reference-before (j .size) (j .xs) p
 
     goes-on : Kept j t₀ → Further
     goes-on i = ⊎-elim (λ d. by-index i d) (λ c. by-copy i (c .0) (c .1)) (leaving i)
@@ -231,7 +231,7 @@ module _ (j : Job) (nh : j .n ≤ 1024) (mh : j .most ≤ 64) (m1 : 1 ≤ j .mos
     here : Reached t q k
 
   stepped-kept : (s : ℕ) (t : Table) → s < j .n * 2 → Kept j t → Alive s t → Kept j (stepped j s t) × Alive (suc s) (stepped j s t)
-  unfolding stepped
+  unfolding stepped after
   stepped-kept s t h i a = at (lt (getD (t .cost) s nan) infinite) refl
     where
       p : ℕ
@@ -274,9 +274,9 @@ module _ (j : Job) (nh : j .n ≤ 1024) (mh : j .most ≤ 64) (m1 : 1 ≤ j .mos
   pub done-reached : (Reached (swept j (j .n * 2) fresh) (j .n) false) ⊎ (Reached (swept j (j .n * 2) fresh) (j .n) true)
   done-reached = let a = swept-kept (j .n * 2) (le-refl _) .1 in at (a .q) (a .k) (a .far) (a .near) (a .here)
     where
-      at : (q : ℕ) (k : Bool) → j .n * 2 ≤ slot q k → q ≤ j .n → Reached (swept j (j .n * 2) fresh) q k → (Reached (swept j (j .n * 2) fresh) (j .n) false) ⊎ (Reached (swept j (j .n * 2) fresh) (j .n) true)
-      at q k far near r = let e : q ≡ j .n = omega (arith, slot-high q k) in kinds k (rw e at r)
-
       kinds : (k : Bool) → Reached (swept j (j .n * 2) fresh) (j .n) k → (Reached (swept j (j .n * 2) fresh) (j .n) false) ⊎ (Reached (swept j (j .n * 2) fresh) (j .n) true)
       kinds true r = inr r
       kinds false r = inl r
+
+      at : (q : ℕ) (k : Bool) → j .n * 2 ≤ slot q k → q ≤ j .n → Reached (swept j (j .n * 2) fresh) q k → (Reached (swept j (j .n * 2) fresh) (j .n) false) ⊎ (Reached (swept j (j .n * 2) fresh) (j .n) true)
+      at q k far near r = let e : q ≡ j .n = omega (arith, slot-high q k) in kinds k (rw e at r)
