@@ -6,7 +6,8 @@ use native.Mathlib.Omega.{arith}
 use lib.ListN.{getD}
 use borrow.Author.Tests.{lt-ltb, le-ltb, eq-eqb, ne-eqb, le-leb, lt-leb}
 use Rattle.paths.specs.Plan.{tab, swept}
-use Rattle.sweep.specs.Prices.{jobIn, swept-none, swept-more}
+use Rattle.starts.specs.Starts.{jobIn}
+use Rattle.sweep.specs.Prices.{swept-none, swept-more}
 use borrow.Author.Needs.{needs}
 use Rattle.sweep.proofs.slots.Statement.{statement}
 use Rattle.sweep.proofs.slots.Tie as tie

@@ -6,14 +6,15 @@ use lib.ListN.{getD}
 use borrow.Author.Tests.{lt-ltb, le-ltb, eq-eqb, ne-eqb, le-leb, lt-leb}
 use Rattle.paths.specs.CellLaws.{above-le}
 use Rattle.paths.specs.Plan.{tab}
-use Rattle.sweep.specs.Prices.{jobIn, step-yes, step-no}
+use Rattle.starts.specs.Starts.{jobIn}
+use Rattle.sweep.specs.Prices.{step-yes, step-no}
 use borrow.Author.Needs.{needs}
 use Rattle.sweep.proofs.step.Statement.{statement}
 use Rattle.sweep.proofs.step.Tie as tie
 use Rattle.sweep.proofs.step.Reads as reads
 use Rattle.sweep.proofs.step.Lts as lts
-use Rattle.sweep.proofs.above_run.Reads as above-run-reads
-use Rattle.sweep.proofs.index_run.Reads as index-run-reads
+use Rattle.starts.proofs.above_run.Reads as above-run-reads
+use Rattle.starts.proofs.index_run.Reads as index-run-reads
 use Rattle.sweep.proofs.infinity.Reads as infinity-reads
 
 mul-c : tie.Need-mul-c

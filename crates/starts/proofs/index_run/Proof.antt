@@ -8,16 +8,16 @@ use lib.Ieee.{Float}
 use Rattle.cells.specs.Steps.{draws-in, sent-in}
 use Rattle.paths.specs.Plan.{tab}
 use Rattle.relax.specs.JumpLaws.{tables-within}
-use Rattle.sweep.specs.Prices.{index-yes, index-no}
+use Rattle.starts.specs.Starts.{index-yes, index-no}
 use borrow.Author.Needs.{needs}
-use Rattle.sweep.proofs.index_run.Statement.{statement}
-use Rattle.sweep.proofs.index_run.Tie as tie
-use Rattle.sweep.proofs.index_run.Reads as reads
-use Rattle.sweep.proofs.index_run.Lts as lts
+use Rattle.starts.proofs.index_run.Statement.{statement}
+use Rattle.starts.proofs.index_run.Tie as tie
+use Rattle.starts.proofs.index_run.Reads as reads
+use Rattle.starts.proofs.index_run.Lts as lts
 use Rattle.cells.proofs.draws_from.Reads as draws-from-reads
 use Rattle.cells.proofs.reference_in.Reads as reference-in-reads
 use Rattle.cells.proofs.sent_from.Reads as sent-from-reads
-use Rattle.sweep.proofs.draw_sent.Reads as draw-sent-reads
+use Rattle.starts.proofs.draw_sent.Reads as draw-sent-reads
 
 element-copy-out-v : tie.Need-element-copy-out-v
 element-copy-out-v c = search needs

@@ -5,13 +5,13 @@ use native.Mathlib.Omega.{arith}
 use lib.ListN.{getD}
 use borrow.Author.Tests.{lt-ltb, le-ltb, eq-eqb, ne-eqb, le-leb, lt-leb}
 use borrow.Author.Needs.{needs}
-use Rattle.sweep.proofs.draw_sent.Statement.{statement}
-use Rattle.sweep.proofs.draw_sent.Tie as tie
-use Rattle.sweep.proofs.draw_sent.Reads as reads
-use Rattle.sweep.proofs.draw_sent.Lts as lts
+use Rattle.starts.proofs.draw_sent.Statement.{statement}
+use Rattle.starts.proofs.draw_sent.Tie as tie
+use Rattle.starts.proofs.draw_sent.Reads as reads
+use Rattle.starts.proofs.draw_sent.Lts as lts
 use Rattle.relax.proofs.draw.Reads as draw-reads
+use Rattle.starts.proofs.head_bits.Reads as head-bits-reads
 use Rattle.sums.proofs.row_of.Reads as row-of-reads
-use Rattle.sweep.proofs.head_bits.Reads as head-bits-reads
 
 head-bits-requires : tie.Need-head-bits-requires
 head-bits-requires c κs = search needs

@@ -5,14 +5,14 @@ use native.Mathlib.Omega.{arith}
 use lib.ListN.{getD}
 use borrow.Author.Tests.{lt-ltb, le-ltb, eq-eqb, ne-eqb, le-leb, lt-leb}
 use Rattle.paths.specs.Plan.{tab}
-use Rattle.sweep.specs.Prices.{copy-late, copy-low, copy-none, copy-yes}
+use Rattle.starts.specs.Starts.{copy-late, copy-low, copy-none, copy-yes}
 use borrow.Author.Needs.{needs}
-use Rattle.sweep.proofs.above_run.Statement.{statement}
-use Rattle.sweep.proofs.above_run.Tie as tie
-use Rattle.sweep.proofs.above_run.Reads as reads
-use Rattle.sweep.proofs.above_run.Lts as lts
+use Rattle.starts.proofs.above_run.Statement.{statement}
+use Rattle.starts.proofs.above_run.Tie as tie
+use Rattle.starts.proofs.above_run.Reads as reads
+use Rattle.starts.proofs.above_run.Lts as lts
 use Rattle.relax.proofs.copy.Reads as copy-reads
-use Rattle.sweep.proofs.wide.Reads as wide-reads
+use Rattle.starts.proofs.wide.Reads as wide-reads
 
 returns : tie.Need-returns
 returns c = λ xs e. let g = c .before .args in copy-late (g .t .size) (g .t .n) (g .t .most) xs (g .short .now) (g .full .now) (g .t .r0) (g .t .r1) (g .t .share) (g .p) (g .k) (g .c) (tab (g .cost .now) (g .pos .now) (g .st .now)) (c .if1 .taken)

@@ -4,15 +4,15 @@ use Prim.Native.Nat.{ℕ, suc, _+_, _-_, _*_, _/_, _%_, _≤_, _<_}
 use native.Mathlib.Omega.{arith}
 use lib.ListN.{getD}
 use borrow.Author.Tests.{lt-ltb, le-ltb, eq-eqb, ne-eqb, le-leb, lt-leb}
-use Rattle.sweep.specs.Prices.{headFrom, alphabet-in}
+use Rattle.starts.specs.Starts.{headFrom, alphabet-in}
 use borrow.Author.Needs.{needs}
-use Rattle.sweep.proofs.head_bits.Statement.{statement}
-use Rattle.sweep.proofs.head_bits.Tie as tie
-use Rattle.sweep.proofs.head_bits.Reads as reads
-use Rattle.sweep.proofs.head_bits.Lts as lts
+use Rattle.starts.proofs.head_bits.Statement.{statement}
+use Rattle.starts.proofs.head_bits.Tie as tie
+use Rattle.starts.proofs.head_bits.Reads as reads
+use Rattle.starts.proofs.head_bits.Lts as lts
 use Rattle.rates.proofs.index_bits.Reads as index-bits-reads
-use Rattle.sweep.proofs.alphabet_at.Reads as alphabet-at-reads
-use Rattle.sweep.proofs.flag_bits.Reads as flag-bits-reads
+use Rattle.starts.proofs.alphabet_at.Reads as alphabet-at-reads
+use Rattle.starts.proofs.flag_bits.Reads as flag-bits-reads
 
 flag-bits-requires : tie.Need-flag-bits-requires
 flag-bits-requires c κs = search needs
