@@ -1,0 +1,1 @@
+// What is promised of the plan of every block. Theorems only, in specs/.
