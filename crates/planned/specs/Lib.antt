@@ -1,3 +1,3 @@
 pub mod Front
+pub mod Told
 pub mod Planning
-pub mod Answered
