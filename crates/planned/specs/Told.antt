@@ -17,7 +17,7 @@ use Rattle.model.specs.Whole.{maxIndex, blockSizeIn, holds}
 use Rattle.rates.specs.declared.RateModel.{RateModel}
 use Rattle.rates.specs.Rates.{ratesIn}
 use Rattle.paths.specs.Plan.{planned}
-use Rattle.cheapest.specs.Found.{foundOf}
+use Rattle.finish.specs.Found.{foundOf}
 use Rattle.plan.specs.declared.Plan.{Plan}
 use Rattle.plan.specs.declared.Planned.{Planned}
 use Rattle.plan.specs.declared.Planned.the-variants.{Nothing, Runs, Refused}

@@ -6,15 +6,15 @@ use lib.ListN.{getD, length, replicate, length-replicate}
 use native.Mathlib.Nat.{mul-le-mul}
 use Rattle.paths.specs.Same.{planned-same}
 use Rattle.sweep.specs.Prices.{prices-same}
-use Rattle.cheapest.specs.Found.{foundOf}
-use Rattle.cheapest.specs.FoundLaws.{each-laid, tables-of}
+use Rattle.finish.specs.Found.{foundOf}
+use Rattle.cheapest.specs.SearchLaws.{each-laid, tables-of}
 use borrow.Author.Needs.{needs}
 use Rattle.cheapest.proofs.plan_cells.Statement.{statement}
 use Rattle.cheapest.proofs.plan_cells.Tie as tie
 use Rattle.cheapest.proofs.plan_cells.Reads as reads
 use Rattle.cheapest.proofs.plan_cells.Lts as lts
-use Rattle.cells.proofs.fill_above.Reads as fill-above-reads
-use Rattle.cells.proofs.fill_lengths.Reads as fill-lengths-reads
+use Rattle.measure.proofs.fill_above.Reads as fill-above-reads
+use Rattle.measure.proofs.fill_lengths.Reads as fill-lengths-reads
 use Rattle.cheapest.proofs.search.Reads as search-reads
 use Rattle.rates.proofs.share_bits.Reads as share-bits-reads
 use Rattle.sums.proofs.run_sums.Reads as run-sums-reads

@@ -6,13 +6,13 @@ use lib.ListN.{getD, length, replicate, length-replicate}
 use lib.Ieee.{nanBits}
 use Rattle.base.specs.Upto.{literal-0}
 use Rattle.paths.specs.Plan.{endCost}
-use Rattle.cheapest.specs.FoundLaws.{infinity-is, search-falls, search-is}
+use Rattle.cheapest.specs.SearchLaws.{infinity-is, search-falls, search-is}
 use borrow.Author.Needs.{needs}
 use Rattle.cheapest.proofs.search.Statement.{statement}
 use Rattle.cheapest.proofs.search.Tie as tie
 use Rattle.cheapest.proofs.search.Reads as reads
 use Rattle.cheapest.proofs.search.Lts as lts
-use Rattle.cheapest.proofs.finish.Reads as finish-reads
+use Rattle.finish.proofs.finish.Reads as finish-reads
 use Rattle.sweep.proofs.sweep.Reads as sweep-reads
 
 float-from-bits-big : tie.Need-float-from-bits-big
