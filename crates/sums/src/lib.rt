@@ -112,11 +112,11 @@ fn tb_sum(sum: f32, n: u32, v: u32) -> f32
         return sum;
     }
     let k = flog(n);
-    let all = sum + number(k);
+    let bits = number(k);
     if v < pow2(k + 1) - n {
-        return all;
+        return sum + bits;
     }
-    all + 1.0
+    sum + bits + 1.0
 }
 
 // A sum with the suffix of a run of `more` further cells.

@@ -1,31 +1,21 @@
--- The prices that the tables of sums stand for, and one slot's runs by them.
+-- The tables of a model's sums give the model's prices, and the planner's slots one by one.
 use mathlib.Core.Path.{_≡_, refl, ap, sym, _∙_}
 use mathlib.Core.Bool.{Bool, true, false}
-use mathlib.Core.List.{List, [], _∷_}
-use Prim.Native.Nat.{ℕ, zero, suc, _+_, _*_, _-_, _/_, _%_, _^_, _≤_, _<_}
+use mathlib.Core.List.{List}
+use Prim.Native.Nat.{ℕ, _+_, _/_, _%_, _≤_, _<_}
 use native.Mathlib.Numerals.{add-one}
 use native.Mathlib.Omega.{arith}
-use lib.Dec.{eqb, ltb, leb}
-use lib.Ieee.{Float, nan, binary32, add, lt}
+use lib.Dec.{eqb}
+use lib.Ieee.{Float, nan, lt}
 use lib.ListN.{getD}
-use borrow.Author.Tests.{le-leb, lt-leb}
-use Rattle.base.specs.Pick.{pick, either}
-use Rattle.base.specs.Tests.{every}
-use Rattle.base.specs.Upto.{number}
-use Rattle.rates.specs.Rates.{indexRate, shareRate}
+use Rattle.base.specs.Pick.{pick}
+use Rattle.rates.specs.Rates.{shareRate}
 use Rattle.rates.specs.declared.RateModel.{RateModel}
-use Rattle.sums.specs.Sums.{rowOf, Sums, runFrom}
+use Rattle.sums.specs.Sums.{Sums}
 use Rattle.sums.specs.SumLaws.{run-from}
-use Rattle.syntax.specs.Runs.{mayCopy}
-use Rattle.paths.specs.Cells.{copies, indexLen, aboveLen, draws, sentFor, stopsAt}
-use Rattle.paths.specs.CellLaws.{above-zero, above-some}
-use Rattle.paths.specs.Plan.{Price, priceOf, job, Table, slot, placeOf, kindOf, infinite, flagRate, alphabetAt, headRate, drawCost, copyCost, relaxed, stopped, indexed, copied, stepped, swept}
+use Rattle.paths.specs.Plan.{Price, priceOf, job, Table, infinite, indexed, copied, stepped, swept}
 use Rattle.paths.specs.Same.{Same}
-use Rattle.relax.specs.Jumps.{lengthFrom, copyFrom, drawn}
-use Rattle.relax.specs.JumpLaws.{Tables, drawn-is}
-
-abbrev pub priceIn : List Float → List Float → Float → Float → Float → Price
-priceIn short full r0 r1 share = record { index = r0; above = r1; share = share; run = λ longest above sent more. runFrom short full (rowOf above sent) longest more }
+pub use Rattle.starts.specs.Starts.{priceIn}
 
 -- the tables of a model's sums give the model's prices
 pub prices-same : (m : RateModel) (most n : ℕ) (short full : List Float) (share : Float) → n ≤ 1024 → Sums m short full → share ≡ shareRate most
@@ -36,41 +26,6 @@ prices-same m most n short full share h s e = record {
   share = e;
   run = λ longest above sent more o g. run-from m short full longest above sent more s o (omega arith);
 }
-
-unfoldable pub headFrom : ℕ → ℕ → ℕ → Float → Float → ℕ → Bool → Float → ℕ → Float
-headFrom size n most r0 share p k c sent =
-    add binary32 (add binary32 (add binary32 c (pick (every (mayCopy size p k ∷ ltb (p + 1) n ∷ [])) r0 (number 0))) (indexRate (alphabetAt most p) sent)) share
-
--- ---- the runs from p
-
-module _ (size n most : ℕ) (xs above il al ss : List ℕ) (short full : List Float) (r0 r1 share : Float) (p : ℕ) (k : Bool) (c : Float) (t : Table) where
-  pub index-yes : Tables size n xs above il al ss → p < n → draws size xs p k ≡ true
-      → drawn il al ss (λ q. add binary32 (headFrom size n most r0 share p k c (sentFor size xs p k)) (lengthFrom short full (rowOf false (sentFor size xs p k)) n p q)) p k t
-      ≡ indexed (job size n most xs (priceIn short full r0 r1 share)) p k c t
-  unfolding indexed drawCost headRate flagRate headFrom lengthFrom
-  index-yes a h d = drawn-is size n xs above il al ss a p h _ k t ∙ rw d
-
-module _ (size n most : ℕ) (xs : List ℕ) (short full : List Float) (r0 r1 share : Float) (p : ℕ) (k : Bool) (c : Float) (t : Table) where
-  pub index-no : draws size xs p k ≡ false → t ≡ indexed (job size n most xs (priceIn short full r0 r1 share)) p k c t
-  unfolding indexed
-  index-no d = rw d
-
-  pub copy-late : k ≡ true → t ≡ copied (job size n most xs (priceIn short full r0 r1 share)) p k c t
-  unfolding copied
-  copy-late e = rw e
-
-  pub copy-low : k ≡ false → p < size → t ≡ copied (job size n most xs (priceIn short full r0 r1 share)) p k c t
-  unfolding copied
-  copy-low e h = rw (e, lt-leb size p h)
-
-  pub copy-none : k ≡ false → size ≤ p → p < n → aboveLen size n xs p ≡ 0 → t ≡ copied (job size n most xs (priceIn short full r0 r1 share)) p k c t
-  unfolding copied
-  copy-none e h g z = rw (e, le-leb size p h, above-zero size n xs p g z)
-
-  pub copy-yes : k ≡ false → size ≤ p → p < n → (aboveLen size n xs p ≡ 0 → ⊥)
-      → relaxed t (slot (p + aboveLen size n xs p) true) (add binary32 c (copyFrom short full r1 n p (p + aboveLen size n xs p))) p k ≡ copied (job size n most xs (priceIn short full r0 r1 share)) p k c t
-  unfolding copied copyCost copyFrom rowOf
-  copy-yes e h g z = rw (e, le-leb size p h, above-some size n xs p g z)
 
 -- ---- the slots
 
@@ -91,6 +46,3 @@ module _ (size n most : ℕ) (xs : List ℕ) (v : Price) (s : ℕ) (t : Table) w
   pub swept-more : (u : Table) → u ≡ swept (job size n most xs v) s t → stepped (job size n most xs v) s u ≡ swept (job size n most xs v) (s + 1) t
   unfolding swept
   swept-more u e = rw (add-one, e)
-
-pub alphabet-in : (most p : ℕ) → 1 ≤ most → most ≤ 64 → (1 ≤ alphabetAt most p) × (alphabetAt most p ≤ 1024)
-alphabet-in most p h g = either (eqb p 0) (λ e. rw e (omega arith, omega arith)) (λ e. rw e (omega arith, omega arith))

@@ -5,14 +5,16 @@ use native.Mathlib.Omega.{arith}
 use lib.ListN.{getD}
 use borrow.Author.Tests.{lt-ltb, le-ltb, eq-eqb, ne-eqb, le-leb, lt-leb}
 use Rattle.paths.specs.CellLaws.{above-le}
+use Rattle.paths.specs.Plan.{tab}
+use Rattle.starts.specs.Starts.{jobIn}
 use Rattle.sweep.specs.Prices.{step-yes, step-no}
 use borrow.Author.Needs.{needs}
 use Rattle.sweep.proofs.step.Statement.{statement}
 use Rattle.sweep.proofs.step.Tie as tie
 use Rattle.sweep.proofs.step.Reads as reads
 use Rattle.sweep.proofs.step.Lts as lts
-use Rattle.sweep.proofs.above_run.Reads as above-run-reads
-use Rattle.sweep.proofs.index_run.Reads as index-run-reads
+use Rattle.starts.proofs.above_run.Reads as above-run-reads
+use Rattle.starts.proofs.index_run.Reads as index-run-reads
 use Rattle.sweep.proofs.infinity.Reads as infinity-reads
 
 mul-c : tie.Need-mul-c
@@ -25,18 +27,19 @@ infinity-requires : tie.Need-infinity-requires
 infinity-requires c κs = search needs
 
 index-run-requires : tie.Need-index-run-requires
-index-run-requires c κs = (omega arith, omega arith, omega arith, omega arith, c .before .before .before .before .before .before .pre .4)
+index-run-requires c κs = (omega arith, c .before .before .before .before .before .before .pre .1, c .before .before .before .before .before .before .pre .2, c .before .before .before .before .before .before .pre .3, c .before .before .before .before .before .before .pre .4)
 
 above-run-requires : tie.Need-above-run-requires
-above-run-requires c κs = (omega arith, omega arith, rw (c .before .before .before .before .before .before .before .before .before .before .pre .4 .al-is (c .before .before .before .before .before .before .before .before .before .before .args .s / 2) (omega arith)) (above-le _ _ _ (c .before .before .before .before .before .before .before .before .before .before .args .s / 2) (omega arith)))
+above-run-requires c κs = let h : c .before .before .before .before .before .before .before .before .before .before .args .s / 2 < c .before .before .before .before .before .before .before .before .before .before .args .t .n = omega arith in (h, c .before .before .before .before .before .before .before .before .before .before .pre .1, rw (c .before .before .before .before .before .before .before .before .before .before .pre .4 .al-is (c .before .before .before .before .before .before .before .before .before .before .args .s / 2) (omega arith)) (above-le (c .before .before .before .before .before .before .before .before .before .before .args .t .size) (c .before .before .before .before .before .before .before .before .before .before .args .t .n) (c .before .before .before .before .before .before .before .before .before .before .args .xs .now) (c .before .before .before .before .before .before .before .before .before .before .args .s / 2) (omega arith)))
 
 returns : tie.Need-returns
 returns c =
-    c .above-run .ensures (c .before .before .before .before .before .before .before .before .before .before .before .args .xs .now) (c .before .before .before .before .before .before .before .before .before .before .before .args .most) (c .before .before .before .before .before .before .before .before .before .before .before .args .r0) (c .before .before .before .before .before .before .before .before .before .before .before .args .share) (c .before .before .before .before .before .before .before .before .before .before .before .pre .4 .al-is (c .before .before .before .before .before .before .before .before .before .before .before .args .s / 2) (omega arith))
-    ∙ rw (c .before .before .before .before .index-run .ensures (c .before .before .before .before .before .before .before .before .before .before .before .args .r1)) (step-yes _ _ _ _ _ _ _ (rw (c .before .before .before .before .before .before .before .before .before .infinity .ensures) at (c .before .before .before .before .before .before .before .before .if1 .taken)))
+    let g = c .before .before .before .before .before .before .before .before .before .before .before .args in
+    c .above-run .ensures (g .xs .now) (c .before .before .before .before .before .before .before .before .before .before .before .pre .4 .al-is (g .s / 2) (omega arith))
+    ∙ rw (c .before .before .before .before .index-run .ensures) (step-yes _ _ _ _ _ (g .s) (tab (g .cost .now) (g .pos .now) (g .st .now)) (rw (c .before .before .before .before .before .before .before .before .before .infinity .ensures) at (c .before .before .before .before .before .before .before .before .if1 .taken)))
 
 returns-2 : tie.Need-returns-2
-returns-2 c = step-no _ _ _ _ _ _ _ (rw (c .before .infinity .ensures) at (c .if1 .left))
+returns-2 c = let g = c .before .before .before .args in step-no _ _ _ _ _ (g .s) (tab (g .cost .now) (g .pos .now) (g .st .now)) (rw (c .before .infinity .ensures) at (c .if1 .left))
 
 pub step-spec : {M : Type 1} → statement M
 step-spec =

@@ -6,10 +6,10 @@ use lib.ListN.{getD}
 use borrow.Author.Tests.{lt-ltb, le-ltb, eq-eqb, ne-eqb, le-leb, lt-leb}
 use Rattle.base.specs.Upto.{literal-0}
 use borrow.Author.Needs.{needs}
-use Rattle.sweep.proofs.flag_bits.Statement.{statement}
-use Rattle.sweep.proofs.flag_bits.Tie as tie
-use Rattle.sweep.proofs.flag_bits.Reads as reads
-use Rattle.sweep.proofs.flag_bits.Lts as lts
+use Rattle.starts.proofs.flag_bits.Statement.{statement}
+use Rattle.starts.proofs.flag_bits.Tie as tie
+use Rattle.starts.proofs.flag_bits.Reads as reads
+use Rattle.starts.proofs.flag_bits.Lts as lts
 
 returns : tie.Need-returns
 returns c = rw (c .if1 .taken) literal-0

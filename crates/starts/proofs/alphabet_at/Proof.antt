@@ -5,10 +5,10 @@ use native.Mathlib.Omega.{arith}
 use lib.ListN.{getD}
 use borrow.Author.Tests.{lt-ltb, le-ltb, eq-eqb, ne-eqb, le-leb, lt-leb}
 use borrow.Author.Needs.{needs}
-use Rattle.sweep.proofs.alphabet_at.Statement.{statement}
-use Rattle.sweep.proofs.alphabet_at.Tie as tie
-use Rattle.sweep.proofs.alphabet_at.Reads as reads
-use Rattle.sweep.proofs.alphabet_at.Lts as lts
+use Rattle.starts.proofs.alphabet_at.Statement.{statement}
+use Rattle.starts.proofs.alphabet_at.Tie as tie
+use Rattle.starts.proofs.alphabet_at.Reads as reads
+use Rattle.starts.proofs.alphabet_at.Lts as lts
 
 add-result : tie.Need-add-result
 add-result c = search needs
