@@ -4,15 +4,15 @@ use Prim.Native.Nat.{ℕ, suc, _+_, _-_, _*_, _/_, _%_, _^_, _≤_, _<_}
 use native.Mathlib.Omega.{arith}
 use borrow.Author.Tests.{lt-ltb, le-ltb, eq-eqb, ne-eqb}
 use Rattle.base.specs.Upto.{literal-0}
 use Rattle.sums.specs.Sums.{runFrom}
 use borrow.Author.Needs.{needs}
-use Rattle.sums.proofs.run_from.Statement.{statement}
-use Rattle.sums.proofs.run_from.Tie as tie
-use Rattle.sums.proofs.run_from.Reads as reads
-use Rattle.sums.proofs.run_from.Lts as lts
+use Rattle.lengths.proofs.run_from.Statement.{statement}
+use Rattle.lengths.proofs.run_from.Tie as tie
+use Rattle.lengths.proofs.run_from.Reads as reads
+use Rattle.lengths.proofs.run_from.Lts as lts
 use Rattle.bins.proofs.flog.Reads as flog-reads
-use Rattle.sums.proofs.prefix_of.Reads as prefix-of-reads
-use Rattle.sums.proofs.suffix_sum.Reads as suffix-sum-reads
+use Rattle.lengths.proofs.prefix_of.Reads as prefix-of-reads
+use Rattle.lengths.proofs.suffix_sum.Reads as suffix-sum-reads
 
 returns : tie.Need-returns
 unfolding runFrom

@@ -4,13 +4,13 @@ use Prim.Native.Nat.{ℕ, suc, _+_, _-_, _*_, _≤_, _<_}
 use native.Mathlib.Omega.{arith}
 use lib.ListN.{getD}
 use borrow.Author.Tests.{lt-ltb, le-ltb, eq-eqb, ne-eqb}
 use Rattle.relax.specs.Jumps.{firstStop}
 use borrow.Author.Needs.{needs}
-use Rattle.relax.proofs.first_stop.Statement.{statement}
-use Rattle.relax.proofs.first_stop.Tie as tie
-use Rattle.relax.proofs.first_stop.Reads as reads
-use Rattle.relax.proofs.first_stop.Lts as lts
-use Rattle.relax.proofs.wide.Reads as wide-reads
+use Rattle.draws.proofs.first_stop.Statement.{statement}
+use Rattle.draws.proofs.first_stop.Tie as tie
+use Rattle.draws.proofs.first_stop.Reads as reads
+use Rattle.draws.proofs.first_stop.Lts as lts
+use Rattle.draws.proofs.wide.Reads as wide-reads
 
 add-len : tie.Need-add-len
 add-len c = search needs

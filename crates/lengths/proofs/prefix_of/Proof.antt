@@ -9,10 +9,10 @@ use Rattle.h265.specs.Strings.{flog, prefixOf}
 use Rattle.h265.specs.StringLaws.{flog-low, flog-high}
 use Rattle.h265.specs.RunLaws.{prefix-is}
 use borrow.Author.Needs.{needs}
-use Rattle.sums.proofs.prefix_of.Statement.{statement}
-use Rattle.sums.proofs.prefix_of.Tie as tie
-use Rattle.sums.proofs.prefix_of.Reads as reads
-use Rattle.sums.proofs.prefix_of.Lts as lts
+use Rattle.lengths.proofs.prefix_of.Statement.{statement}
+use Rattle.lengths.proofs.prefix_of.Tie as tie
+use Rattle.lengths.proofs.prefix_of.Reads as reads
+use Rattle.lengths.proofs.prefix_of.Lts as lts
 use Rattle.bins.proofs.flog.Reads as flog-reads
 
 returns : tie.Need-returns

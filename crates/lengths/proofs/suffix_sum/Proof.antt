@@ -6,16 +6,16 @@ use borrow.Author.Tests.{lt-ltb, le-ltb, eq-eqb, ne-eqb}
 use Rattle.bins.specs.Logarithm.{flog-most}
 use Rattle.h265.specs.Strings.{flog}
 use Rattle.h265.specs.StringLaws.{flog-low}
 use Rattle.sums.specs.Sums.{suffixSum}
 use borrow.Author.Needs.{needs}
-use Rattle.sums.proofs.suffix_sum.Statement.{statement}
-use Rattle.sums.proofs.suffix_sum.Tie as tie
-use Rattle.sums.proofs.suffix_sum.Reads as reads
-use Rattle.sums.proofs.suffix_sum.Lts as lts
+use Rattle.lengths.proofs.suffix_sum.Statement.{statement}
+use Rattle.lengths.proofs.suffix_sum.Tie as tie
+use Rattle.lengths.proofs.suffix_sum.Reads as reads
+use Rattle.lengths.proofs.suffix_sum.Lts as lts
 use Rattle.bins.proofs.flog.Reads as flog-reads
 use Rattle.bins.proofs.pow2.Reads as pow2-reads
 use Rattle.bins.proofs.suffixes.Reads as suffixes-reads
-use Rattle.sums.proofs.tb_sum.Reads as tb-sum-reads
+use Rattle.lengths.proofs.tb_sum.Reads as tb-sum-reads
 
 returns : tie.Need-returns
 unfolding suffixSum

@@ -4,18 +4,18 @@ use Prim.Native.Nat.{ℕ, suc, _+_, _-_, _*_, _≤_, _<_}
 use native.Mathlib.Omega.{arith}
 use lib.ListN.{getD}
 use borrow.Author.Tests.{lt-ltb, le-ltb, eq-eqb, ne-eqb}
 use Rattle.relax.specs.Jumps.{Skips, drawn}
 use Rattle.relax.specs.JumpLaws.{first-low, skips-less}
 use borrow.Author.Needs.{needs}
-use Rattle.relax.proofs.draw.Statement.{statement}
-use Rattle.relax.proofs.draw.Tie as tie
-use Rattle.relax.proofs.draw.Reads as reads
-use Rattle.relax.proofs.draw.Lts as lts
-use Rattle.relax.proofs.first_stop.Reads as first-stop-reads
+use Rattle.draws.proofs.draw.Statement.{statement}
+use Rattle.draws.proofs.draw.Tie as tie
+use Rattle.draws.proofs.draw.Reads as reads
+use Rattle.draws.proofs.draw.Lts as lts
+use Rattle.draws.proofs.first_stop.Reads as first-stop-reads
+use Rattle.draws.proofs.stops.Reads as stops-reads
+use Rattle.draws.proofs.wide.Reads as wide-reads
 use Rattle.relax.proofs.length_bits.Reads as length-bits-reads
 use Rattle.relax.proofs.relax.Reads as relax-reads
-use Rattle.relax.proofs.stops.Reads as stops-reads
-use Rattle.relax.proofs.wide.Reads as wide-reads
 
 mul-wide : tie.Need-mul-wide
 mul-wide c = search needs

@@ -1,4 +1,4 @@
--- `relax::stops`. The loop's invariant: the stops from q on are what is left of the stops from the first on.
+-- `draws::stops`. The loop's invariant: the stops from q on are what is left of the stops from the first on.
 use mathlib.Core.Path.{_≡_, refl, sym, ap, _∙_}
 use mathlib.Core.Bool.{Bool, true, false}
 use Prim.Native.Nat.{ℕ, suc, _+_, _-_, _*_, _≤_, _<_}
@@ -7,16 +7,16 @@ use lib.ListN.{getD}
 use borrow.Author.Tests.{lt-ltb, le-ltb, eq-eqb, ne-eqb}
 use lib.Ieee.{Float, binary32, add}
 use Rattle.paths.specs.Plan.{tab}
 use Rattle.relax.specs.Jumps.{lengthFrom, halted}
 use Rattle.relax.specs.JumpLaws.{past, jump}
 use borrow.Author.Needs.{needs}
-use Rattle.relax.proofs.stops.Statement.{statement}
-use Rattle.relax.proofs.stops.Tie as tie
-use Rattle.relax.proofs.stops.Reads as reads
-use Rattle.relax.proofs.stops.Lts as lts
+use Rattle.draws.proofs.stops.Statement.{statement}
+use Rattle.draws.proofs.stops.Tie as tie
+use Rattle.draws.proofs.stops.Reads as reads
+use Rattle.draws.proofs.stops.Lts as lts
+use Rattle.draws.proofs.wide.Reads as wide-reads
 use Rattle.relax.proofs.length_bits.Reads as length-bits-reads
 use Rattle.relax.proofs.relax.Reads as relax-reads
-use Rattle.relax.proofs.wide.Reads as wide-reads
 
 abbrev Inv-loop : tie.InvT-loop
 Inv-loop cost₀ pos₀ st₀ next short full row head n p k first end q₀ cost pos st q = (p < q) × (halted end next end (λ i. add binary32 head (lengthFrom short full row n p i)) p k q (tab cost pos st) ≡ halted end next end (λ i. add binary32 head (lengthFrom short full row n p i)) p k first (tab cost₀ pos₀ st₀))

@@ -3,15 +3,15 @@ use mathlib.Core.Bool.{Bool, true, false}
 use Prim.Native.Nat.{ℕ, suc, _+_, _-_, _*_, _/_, _%_, _^_, _≤_, _<_}
 use native.Mathlib.Omega.{arith}
 use borrow.Author.Tests.{lt-ltb, le-ltb, eq-eqb, ne-eqb}
 use Rattle.sums.specs.SumLaws.{run-from}
 use borrow.Author.Needs.{needs}
-use Rattle.sums.proofs.run_bits.Statement.{statement}
-use Rattle.sums.proofs.run_bits.Tie as tie
-use Rattle.sums.proofs.run_bits.Reads as reads
-use Rattle.sums.proofs.run_bits.Lts as lts
+use Rattle.lengths.proofs.run_bits.Statement.{statement}
+use Rattle.lengths.proofs.run_bits.Tie as tie
+use Rattle.lengths.proofs.run_bits.Reads as reads
+use Rattle.lengths.proofs.run_bits.Lts as lts
+use Rattle.lengths.proofs.run_from.Reads as run-from-reads
 use Rattle.sums.proofs.row_of.Reads as row-of-reads
-use Rattle.sums.proofs.run_from.Reads as run-from-reads
 use Rattle.sums.proofs.run_sums.Reads as run-sums-reads
 
 run-sums-requires : tie.Need-run-sums-requires
 run-sums-requires c κs = search needs

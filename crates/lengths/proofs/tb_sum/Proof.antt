@@ -6,12 +6,12 @@ use borrow.Author.Tests.{lt-ltb, le-ltb, eq-eqb, ne-eqb}
 use Rattle.base.specs.Upto.{literal-1}
 use Rattle.bins.specs.Logarithm.{flog-most}
 use Rattle.h265.specs.StringLaws.{flog-high}
 use Rattle.sums.specs.Sums.{tbSum}
 use borrow.Author.Needs.{needs}
-use Rattle.sums.proofs.tb_sum.Statement.{statement}
-use Rattle.sums.proofs.tb_sum.Tie as tie
-use Rattle.sums.proofs.tb_sum.Reads as reads
-use Rattle.sums.proofs.tb_sum.Lts as lts
+use Rattle.lengths.proofs.tb_sum.Statement.{statement}
+use Rattle.lengths.proofs.tb_sum.Tie as tie
+use Rattle.lengths.proofs.tb_sum.Reads as reads
+use Rattle.lengths.proofs.tb_sum.Lts as lts
 use Rattle.bins.proofs.flog.Reads as flog-reads
 use Rattle.bins.proofs.pow2.Reads as pow2-reads
 use Rattle.rates.proofs.number.Reads as number-reads
