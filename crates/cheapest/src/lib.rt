@@ -1,61 +1,43 @@
 // The cheapest path of a block's cells: the tables of the cells and of the sums, the sweep over them, and the runs of the path at its end.
 ghost use mathlib.Core.Path.{_≡_};
-ghost use mathlib.Core.Bool.{Bool, true, false};
 ghost use Prim.Native.Nat.{ℕ, _+_, _*_, _≤_, _<_};
-ghost use lib.Ieee.{lt};
-ghost use Rattle.base.specs.Pick.{pick};
-ghost use Rattle.paths.specs.Plan.{job, priceOf, trail, planned};
+ghost use Rattle.finish.specs.Found.{foundOf};
+ghost use Rattle.paths.specs.Plan.{job, priceOf, fresh, planned};
+ghost use Rattle.rates.specs.Rates.{shareRate};
 ghost use Rattle.relax.specs.JumpLaws.{Tables};
-ghost use Rattle.sweep.specs.Prices.{priceIn};
-ghost use Rattle.walk.specs.Points.{Falls, runsIn};
-ghost use Rattle.cheapest.specs.Found.{found, foundOf};
-use cells::fill_above;
-use cells::fill_lengths;
-use model::PaletteRun;
+ghost use Rattle.starts.specs.Starts.{termsOf, jobIn};
+use finish::Found;
+use finish::finish;
+use measure::fill_above;
+use measure::fill_lengths;
 use rates::RateModel;
 use rates::share_bits;
+use starts::Terms;
 use sums::run_sums;
 use sweep::sweep;
-use walk::lay;
-use walk::runs_of;
 
-// A count of runs, the total in bits, and the runs.
-pub struct Found {
-    pub count: usize,
-    pub total: f32,
-    pub runs: [PaletteRun; 1024],
+// What the slots cost before any run: the empty path ends at place 0, and no other slot is reached.
+fn fresh_costs() -> [f32; 2050]
+    ensures { λ r. ⌜ r ≡ fresh .cost ⌝ }
+{
+    let mut cost = [f32::from_bits(0x7f80_0000); 2050];
+    cost[0] = 0.0;
+    cost
 }
 
-// The cost of the end that is chosen.
-fn chosen(k: bool, e0: f32, e1: f32) -> f32
-    ensures { λ r. ⌜ r ≡ pick k e1 e0 ⌝ }
+// What the planner is told of a block and its rates.
+fn terms_of(size: usize, n: usize, most: u32, m: RateModel) -> Terms
+    requires { ⌜ most ≤ 64 ⌝ }
+    ensures { λ r. ⌜ r ≡ termsOf size n most (m .«run_type» .bin0) (m .«run_type» .bin1) (shareRate most) ⌝ }
 {
-    if k {
-        return e1;
+    Terms {
+        size,
+        n,
+        most,
+        r0: m.run_type.bin0,
+        r1: m.run_type.bin1,
+        share: share_bits(most),
     }
-    e0
-}
-
-// The runs of the path that ends at n, with the cheaper of the two ends.
-fn finish(
-    xs: &[u8; 1024],
-    above: &[u8; 1024],
-    pos: &[u16; 2050],
-    st: &[bool; 2050],
-    n: usize,
-    e0: f32,
-    e1: f32,
-) -> Found
-    requires { ⌜ (n ≤ 1024) × Falls (now pos) ⌝ }
-    ensures { λ r. ⌜ r ≡ found (pick (lt e1 e0) e1 e0) (runsIn (now (xs .entry)) (now (above .entry)) 0 false (trail (now (pos .entry)) (now (st .entry)) n n (lt e1 e0))) ⌝ }
-{
-    let k = e1 < e0;
-    let total = chosen(k, e0, e1);
-    let mut ends = [0u16; 1024];
-    let mut kinds = [false; 1024];
-    let count = lay(pos, st, n, k, &mut ends, &mut kinds);
-    let runs = runs_of(xs, above, &ends, &kinds, count);
-    Found { count, total, runs }
 }
 
 // The cheapest path, by the tables of the cells and of the sums.
@@ -67,19 +49,12 @@ fn search(
     next: &[u16; 1026],
     short: &[f32; 48],
     full: &[f32; 48],
-    size: usize,
-    n: usize,
-    most: u32,
-    r0: f32,
-    r1: f32,
-    share: f32,
+    t: Terms,
 ) -> Found
-    requires { ⌜ (n ≤ 1024) × (1 ≤ most) × (most ≤ 64) × Tables size n (now xs) (now above) (now «index_len») (now «above_len») (now next) ⌝ }
-    ensures { λ r. ⌜ r ≡ foundOf (planned (job size n most (now (xs .entry)) (priceIn (now (short .entry)) (now (full .entry)) r0 r1 share))) ⌝ }
+    requires { ⌜ (t .n ≤ 1024) × (1 ≤ t .most) × (t .most ≤ 64) × Tables (t .size) (t .n) (now xs) (now above) (now «index_len») (now «above_len») (now next) ⌝ }
+    ensures { λ r. ⌜ r ≡ foundOf (planned (jobIn t (now (xs .entry)) (now (short .entry)) (now (full .entry)))) ⌝ }
 {
-    let big = f32::from_bits(0x7f80_0000);
-    let mut cost = [big; 2050];
-    cost[0] = 0.0;
+    let mut cost = fresh_costs();
     let mut pos = [0u16; 2050];
     let mut st = [false; 2050];
     sweep(
@@ -93,16 +68,16 @@ fn search(
         next,
         short,
         full,
-        size,
-        n,
-        most,
-        r0,
-        r1,
-        share,
+        t.size,
+        t.n,
+        t.most,
+        t.r0,
+        t.r1,
+        t.share,
     );
-    let e0 = cost[n * 2] + r0;
-    let e1 = cost[n * 2 + 1] + r1;
-    finish(xs, above, &pos, &st, n, e0, e1)
+    let e0 = cost[t.n * 2] + t.r0;
+    let e1 = cost[t.n * 2 + 1] + t.r1;
+    finish(xs, above, &pos, &st, t.n, e0, e1)
 }
 
 // The cheapest path of a block's cells.
@@ -128,20 +103,6 @@ pub fn plan_cells(xs: &[u8; 1024], size: usize, most: u32, m: RateModel) -> Foun
     let sums = run_sums(m);
     let short = sums.short;
     let full = sums.full;
-    let share = share_bits(most);
-    search(
-        xs,
-        &above,
-        &index_len,
-        &above_len,
-        &next,
-        &short,
-        &full,
-        size,
-        n,
-        most,
-        m.run_type.bin0,
-        m.run_type.bin1,
-        share,
-    )
+    let t = terms_of(size, n, most, m);
+    search(xs, &above, &index_len, &above_len, &next, &short, &full, t)
 }

@@ -13,7 +13,7 @@ use Rattle.model.specs.Whole.{maxIndex, blockSizeIn, holds}
 use Rattle.rates.specs.declared.RateModel.{RateModel}
 use Rattle.rates.specs.Rates.{ratesIn}
 use Rattle.paths.specs.Plan.{Job, job, priceOf, planned}
-use Rattle.cheapest.specs.Found.{laidRuns}
+use Rattle.finish.specs.Found.{laidRuns}
 use Rattle.plan.specs.declared.Plan.{Plan}
 use Rattle.plan.specs.declared.Planned.{Planned}
 use Rattle.plan.specs.declared.Planned.the-variants.{Nothing, Runs, Refused}

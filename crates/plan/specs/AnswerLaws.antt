@@ -18,8 +18,8 @@ use Rattle.model.specs.WholeLaws.{whole}
 use Rattle.rates.specs.declared.RateModel.{RateModel}
 use Rattle.rates.specs.Rates.{ratesIn}
 use Rattle.paths.specs.Plan.{job, priceOf, planned}
-use Rattle.cheapest.specs.declared.Found.{Found}
-use Rattle.cheapest.specs.Found.{blankRuns, foundOf}
+use Rattle.finish.specs.declared.Found.{Found}
+use Rattle.finish.specs.Found.{blankRuns, foundOf}
 use Rattle.plan.specs.declared.Plan.{Plan}
 use Rattle.plan.specs.declared.Planned.{Planned}
 use Rattle.plan.specs.declared.Planned.the-variants.{Nothing, Runs, Refused}

@@ -4,7 +4,7 @@ ghost use mathlib.Core.Bool.{true};
 ghost use Prim.Native.Nat.{_+_, _-_, _≤_};
 ghost use Rattle.h265.specs.Strings.{bit};
 ghost use Rattle.model.specs.Whole.{holds};
-ghost use Rattle.cheapest.specs.Found.{blankRuns};
+ghost use Rattle.finish.specs.Found.{blankRuns};
 ghost use Rattle.plan.specs.Answer.{refusedWith, blockPlan, planOf};
 use cheapest::plan_cells;
 use model::PaletteCu;

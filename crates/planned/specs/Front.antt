@@ -12,7 +12,7 @@ use Rattle.base.specs.Counted.{push}
 use Rattle.model.specs.declared.PaletteRun.{PaletteRun}
 use Rattle.syntax.specs.Runs.{Run, Keeps}
 use Rattle.walk.specs.Points.{noRun}
-use Rattle.cheapest.specs.Found.{laidRuns}
+use Rattle.finish.specs.Found.{laidRuns}
 
 front : {A : Type 0} (l s : List A) (i : ℕ) → i + length s ≤ length l → take (i + length s) (sets l i s) ≡ take i l ++ s
 front l [] i h = rw (add-zero i) (sym (append-nil (take i l)))

@@ -1,3 +1,4 @@
 pub mod Front
+pub mod Told
 pub mod Planning
-pub mod Answered
+pub mod Figures

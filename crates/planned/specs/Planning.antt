@@ -7,7 +7,7 @@ use mathlib.Core.Logic.{_⊎_}
 use Prim.Native.Nat.{ℕ, _+_, _*_, _≤_, _<_}
 use native.Mathlib.Nat.{mul-le-mul, zero-add}
 use native.Mathlib.Omega.{arith}
-use lib.Ieee.{lt}
+use lib.Ieee.{Float, lt}
 use lib.ListN.{length, take}
 use Rattle.base.specs.Upto.{Upto}
 use Rattle.model.specs.declared.PaletteCu.{PaletteCu}
@@ -23,12 +23,14 @@ use Rattle.syntax.specs.ReplayLaws.{Alphabets, rules-keep, rules-alphabets}
 use Rattle.paths.specs.Plan.{Table, priceOf, infinite, swept, fresh, lastKind, planned}
 use Rattle.paths.specs.Edges.{costOf}
 use Rattle.paths.specs.TableLaws.{costAt, Reached}
-use Rattle.plan.specs.Answer.{jobOf}
+use Rattle.plan.specs.declared.Planned.the-variants.{Runs}
+use Rattle.plan.specs.Answer.{jobOf, planWith, planOf}
 use Rattle.plan.specs.AnswerLaws.{most-in}
 use Rattle.covers.specs.Reach.{Fair, reached-upto, done-kept, cost-upto}
 use Rattle.covers.specs.Covers.{chosen-reached, planned-rules, planned-replay, total-finite}
 use Rattle.covers.specs.Least.{entryAt, best, least}
-use Rattle.planned.specs.Front.{keeps-count}
+use Rattle.planned.specs.Front.{front-runs, keeps-count}
+use Rattle.planned.specs.Told.{answer-is, runs-told}
 
 -- n, the block's indices along the scan, the planned runs, and the table that the sweep leaves
 abbrev pub cells : PaletteCu → ℕ
@@ -106,3 +108,30 @@ module _ (cu : PaletteCu) (m : RateModel) (whole-block : holds 64 cu ≡ true) (
   -- EACH ENTRY OF THE TABLE IS THE FIRST CHEAPEST of the offers to its slot, in the order of the slots that they come from: a later one takes its place only where it is strictly cheaper
   pub plan-least : (q : ℕ) (k : Bool) → entryAt (table cu m) q k ≡ best (jobOf cu m) (table cu m) q k (cells cu * 2)
   plan-least = least (jobOf cu m) few
+
+-- ---- the same of what plan_runs answers
+
+-- EVERY BLOCK that holds together with M above 0 IS PLANNED, for rates from 0 to 64 and a list with room for n runs
+pub answered : (cu : PaletteCu) (m : RateModel) (room : ℕ) → holds 64 cu ≡ true → ratesIn m ≡ true → 1 ≤ maxIndex cu → cells cu ≤ room
+    → planOf cu m room ≡ planWith (Runs (length (runs cu m)) (planned (jobOf cu m) .total)) (runs cu m)
+answered cu m room h r o l = let c = plan-count cu m h r o in answer-is cu m room h r (λ z. omega arith) (omega arith)
+
+-- WHATEVER PLAN IS ANSWERED, the runs at the front of the array keep the rules and replay to the block's indices, and the total is a number
+pub record Sound (cu : PaletteCu) (rs : List PaletteRun) : Type 0 where
+  pub rules : Replays (cu .size) (cells cu) (maxIndex cu) (indices cu) 0 false rs
+  pub keeps : Keeps (cu .size) (cells cu) 0 false rs
+  pub replays : length (cu .indices) ≡ 1024 → replay (cu .size) false [] rs ≡ indices cu
+
+pub answered-sound : (cu : PaletteCu) (m : RateModel) (room c : ℕ) (t : Float) → planOf cu m room .answer ≡ Runs c t → Sound cu (take c (planOf cu m room .runs)) × (lt t infinite ≡ true)
+answered-sound cu m room c t e =
+    let w = runs-told cu m room c t e in
+    let few : cells cu ≤ 1024 = small (cu .size) (whole 64 cu (w .whole) .small) in
+    let n = plan-count cu m (w .whole) (w .rates) (w .some) in
+    let f : take c (planOf cu m room .runs) ≡ runs cu m = rw (w .plan, w .count) (front-runs (runs cu m) (omega arith)) in
+    (rw f (sound (w .whole) (w .rates) (w .some)), rw (w .total) (plan-finite cu m (w .whole) (w .rates) (w .some)))
+  where
+    small : (s : ℕ) → s ≤ 32 → s * s ≤ 1024
+    small s h = mul-le-mul h h
+
+    sound : holds 64 cu ≡ true → ratesIn m ≡ true → 1 ≤ maxIndex cu → Sound cu (runs cu m)
+    sound h r o = record { rules = plan-rules cu m h r o; keeps = plan-keeps cu m h r o; replays = plan-replay cu m h r o }

@@ -20,9 +20,9 @@ ghost use Rattle.starts.specs.Starts.{jobIn, headFrom};
 use cells::draws_from;
 use cells::reference_in;
 use cells::sent_from;
+use draws::draw;
 use rates::index_bits;
 use relax::copy;
-use relax::draw;
 use sums::row_of;
 
 // The size and the number of the cells, the greatest index, and what the runs' kinds and an index run's share of the count cost.

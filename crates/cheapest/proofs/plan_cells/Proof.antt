@@ -6,17 +6,17 @@ use lib.ListN.{getD, length, replicate, length-replicate}
 use native.Mathlib.Nat.{mul-le-mul}
 use Rattle.paths.specs.Same.{planned-same}
 use Rattle.sweep.specs.Prices.{prices-same}
-use Rattle.cheapest.specs.Found.{foundOf}
-use Rattle.cheapest.specs.FoundLaws.{each-laid, tables-of}
+use Rattle.finish.specs.Found.{foundOf}
+use Rattle.cheapest.specs.SearchLaws.{each-laid, tables-of}
 use borrow.Author.Needs.{needs}
 use Rattle.cheapest.proofs.plan_cells.Statement.{statement}
 use Rattle.cheapest.proofs.plan_cells.Tie as tie
 use Rattle.cheapest.proofs.plan_cells.Reads as reads
 use Rattle.cheapest.proofs.plan_cells.Lts as lts
-use Rattle.cells.proofs.fill_above.Reads as fill-above-reads
-use Rattle.cells.proofs.fill_lengths.Reads as fill-lengths-reads
 use Rattle.cheapest.proofs.search.Reads as search-reads
-use Rattle.rates.proofs.share_bits.Reads as share-bits-reads
+use Rattle.cheapest.proofs.terms_of.Reads as terms-of-reads
+use Rattle.measure.proofs.fill_above.Reads as fill-above-reads
+use Rattle.measure.proofs.fill_lengths.Reads as fill-lengths-reads
 use Rattle.sums.proofs.run_sums.Reads as run-sums-reads
 
 mul-n : tie.Need-mul-n
@@ -33,19 +33,20 @@ fill-lengths-requires c κs =
 run-sums-requires : tie.Need-run-sums-requires
 run-sums-requires c κs = search needs
 
-share-bits-requires : tie.Need-share-bits-requires
-share-bits-requires c κs = search needs
+terms-of-requires : tie.Need-terms-of-requires
+terms-of-requires c κs = search needs
 
 search-requires : tie.Need-search-requires
 search-requires c κs =
     let h : c .before .before .before .before .before .before .before .before .before .before .before .before .before .before .before .before .before .args .size * c .before .before .before .before .before .before .before .before .before .before .before .before .before .before .before .before .before .args .size ≤ 32 * 32 = mul-le-mul (c .before .before .before .before .before .before .before .before .before .before .before .before .before .before .before .before .before .pre .0) (c .before .before .before .before .before .before .before .before .before .before .before .before .before .before .before .before .before .pre .0) in
     let f = c .before .before .before .before .before .before .before .before .before .before .fill-lengths .ensures in
-    (omega arith, c .before .before .before .before .before .before .before .before .before .before .before .before .before .before .before .before .before .pre .1, c .before .before .before .before .before .before .before .before .before .before .before .before .before .before .before .before .before .pre .2, tables-of _ _ _ _ _ _ _ _ _ _ _ (omega arith) (length-replicate {A = ℕ} 1024 0) (length-replicate {A = ℕ} 1026 0) (length-replicate {A = ℕ} 1026 0) (length-replicate {A = ℕ} 1026 0) (c .before .before .before .before .before .before .before .before .before .before .before .before .before .before .before .fill-above .ensures) (f .0) (f .1) (f .2))
+    rw (c .before .before .before .before .before .before .terms-of .ensures) (omega arith, c .before .before .before .before .before .before .before .before .before .before .before .before .before .before .before .before .before .pre .1, c .before .before .before .before .before .before .before .before .before .before .before .before .before .before .before .before .before .pre .2, tables-of _ _ _ _ _ _ _ _ _ _ _ (omega arith) (length-replicate {A = ℕ} 1024 0) (length-replicate {A = ℕ} 1026 0) (length-replicate {A = ℕ} 1026 0) (length-replicate {A = ℕ} 1026 0) (c .before .before .before .before .before .before .before .before .before .before .before .before .before .before .before .fill-above .ensures) (f .0) (f .1) (f .2))
 
 returns : tie.Need-returns
 returns c =
     let h : c .before .before .before .before .before .before .before .before .before .before .before .before .before .before .before .before .before .before .args .size * c .before .before .before .before .before .before .before .before .before .before .before .before .before .before .before .before .before .before .args .size ≤ 32 * 32 = mul-le-mul (c .before .before .before .before .before .before .before .before .before .before .before .before .before .before .before .before .before .before .pre .0) (c .before .before .before .before .before .before .before .before .before .before .before .before .before .before .before .before .before .before .pre .0) in
-    c .search .ensures ∙ ap foundOf (planned-same _ _ _ _ _ _ (prices-same _ _ _ _ _ _ (omega arith) (c .before .before .before .before .before .before .before .before .before .before .run-sums .ensures) (c .before .before .before .before .before .before .before .share-bits .ensures)))
+    let e = rw (c .before .before .before .before .before .before .before .terms-of .ensures) at (c .search .ensures) in
+    e ∙ ap foundOf (planned-same _ _ _ _ _ _ (prices-same _ _ _ _ _ _ (omega arith) (c .before .before .before .before .before .before .before .before .before .before .run-sums .ensures) refl))
 
 pub plan-cells-spec : {M : Type 1} → statement M
 plan-cells-spec =
@@ -55,6 +56,6 @@ plan-cells-spec =
     fill-above-requires
     fill-lengths-requires
     run-sums-requires
-    share-bits-requires
+    terms-of-requires
     search-requires
     returns)

@@ -3,24 +3,19 @@ use mathlib.Core.Bool.{Bool, true, false}
 use Prim.Native.Nat.{ℕ, suc, _+_, _-_, _*_, _≤_, _<_}
 use native.Mathlib.Omega.{arith}
 use lib.ListN.{getD, length, replicate, length-replicate}
-use lib.Ieee.{nanBits}
-use Rattle.base.specs.Upto.{literal-0}
 use Rattle.paths.specs.Plan.{endCost}
-use Rattle.cheapest.specs.FoundLaws.{infinity-is, search-falls, search-is}
+use Rattle.cheapest.specs.SearchLaws.{search-falls, search-is}
 use borrow.Author.Needs.{needs}
 use Rattle.cheapest.proofs.search.Statement.{statement}
 use Rattle.cheapest.proofs.search.Tie as tie
 use Rattle.cheapest.proofs.search.Reads as reads
 use Rattle.cheapest.proofs.search.Lts as lts
-use Rattle.cheapest.proofs.finish.Reads as finish-reads
+use Rattle.cheapest.proofs.fresh_costs.Reads as fresh-costs-reads
+use Rattle.finish.proofs.finish.Reads as finish-reads
 use Rattle.sweep.proofs.sweep.Reads as sweep-reads
 
-float-from-bits-big : tie.Need-float-from-bits-big
-unfolding nanBits
-float-from-bits-big c = tt
-
-array-write-cost : tie.Need-array-write-cost
-array-write-cost c = search needs
+fresh-costs-requires : tie.Need-fresh-costs-requires
+fresh-costs-requires c κs = search needs
 
 sweep-requires : tie.Need-sweep-requires
 sweep-requires c κs = search needs
@@ -48,21 +43,20 @@ array-read-e1 c = search needs
 
 finish-requires : tie.Need-finish-requires
 finish-requires c κs =
-    let e = rw (infinity-is, literal-0) at (c .before .before .sweep .ensures) in
-    (c .before .before .before .before .before .before .pre .0, search-falls _ (c .before .before .before .before .before .before .pre .0) _ _ _ e)
+    let e = rw (c .before .before .before .before .before .before .before .before .before .before .fresh-costs .ensures) at (c .before .before .before .before .before .before .sweep .ensures) in
+    (c .before .before .before .before .before .before .before .before .before .before .before .pre .0, search-falls _ (c .before .before .before .before .before .before .before .before .before .before .before .pre .0) _ _ _ e)
 
 returns : tie.Need-returns
 unfolding endCost
 returns c =
-    let e = rw (infinity-is, literal-0) at (c .before .before .before .sweep .ensures) in
-    c .finish .ensures ∙ search-is _ (c .before .before .before .before .before .before .before .pre .0) _ _ _ e _ (c .before .before .before .before .before .before .before .pre .3 .above-is)
+    let e = rw (c .before .before .before .before .before .before .before .before .before .before .before .fresh-costs .ensures) at (c .before .before .before .before .before .before .before .sweep .ensures) in
+    c .finish .ensures ∙ search-is _ (c .before .before .before .before .before .before .before .before .before .before .before .before .pre .0) _ _ _ e _ (c .before .before .before .before .before .before .before .before .before .before .before .before .pre .3 .above-is)
 
 pub search-spec : {M : Type 1} → statement M
 search-spec =
     tie.close
     (tie.spec
-    float-from-bits-big
-    array-write-cost
+    fresh-costs-requires
     sweep-requires
     mul-e0
     mul-e0-2

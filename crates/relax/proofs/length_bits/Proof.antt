@@ -11,7 +11,7 @@ use Rattle.relax.proofs.length_bits.Statement.{statement}
 use Rattle.relax.proofs.length_bits.Tie as tie
 use Rattle.relax.proofs.length_bits.Reads as reads
 use Rattle.relax.proofs.length_bits.Lts as lts
-use Rattle.sums.proofs.run_from.Reads as run-from-reads
+use Rattle.lengths.proofs.run_from.Reads as run-from-reads
 
 returns : tie.Need-returns
 unfolding lengthFrom

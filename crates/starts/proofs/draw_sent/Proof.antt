@@ -9,7 +9,7 @@ use Rattle.starts.proofs.draw_sent.Statement.{statement}
 use Rattle.starts.proofs.draw_sent.Tie as tie
 use Rattle.starts.proofs.draw_sent.Reads as reads
 use Rattle.starts.proofs.draw_sent.Lts as lts
-use Rattle.relax.proofs.draw.Reads as draw-reads
+use Rattle.draws.proofs.draw.Reads as draw-reads
 use Rattle.starts.proofs.head_bits.Reads as head-bits-reads
 use Rattle.sums.proofs.row_of.Reads as row-of-reads
 
