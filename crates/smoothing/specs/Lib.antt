@@ -1,4 +1,3 @@
 pub mod Smoothing
 pub mod Laws
-pub mod Kept
 pub mod Holds

@@ -11,14 +11,15 @@ use Rattle.source.specs.Source.{cellsIn}
 use Rattle.source.specs.Laws.{some, fetched, cells-color}
 use Rattle.figure.specs.Laws.{inRows}
 use Rattle.sse.specs.Laws.{same-size}
-use Rattle.smoothing.specs.Laws.{block-whole, answer-same, refused-source, refused-block, refused-kind, smooth-answer}
+use Rattle.smoothblock.specs.Laws.{answer-same}
+use Rattle.smoothing.specs.Laws.{block-whole, refused-source, refused-block, refused-kind, smooth-answer}
 use borrow.Author.Needs.{needs}
 use Rattle.smoothing.proofs.smooth_indices.Statement.{statement}
 use Rattle.smoothing.proofs.smooth_indices.Tie as tie
 use Rattle.smoothing.proofs.smooth_indices.Reads as reads
 use Rattle.smoothing.proofs.smooth_indices.Lts as lts
+use Rattle.smoothblock.proofs.smooth_block.Reads as smooth-block-reads
 use Rattle.smoothing.proofs.kind_in.Reads as kind-in-reads
-use Rattle.smoothing.proofs.smooth_block.Reads as smooth-block-reads
 use Rattle.source.proofs.source_refusal.Reads as source-refusal-reads
 use Rattle.sse.proofs.block_in.Reads as block-in-reads
 

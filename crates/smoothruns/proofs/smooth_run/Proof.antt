@@ -2,16 +2,17 @@
 use mathlib.Core.Path.{_≡_, sym, _∙_}
 use native.Mathlib.Omega.{arith}
 use Rattle.smooth.specs.Smooth.{scene}
-use Rattle.smoothruns.specs.Laws.{joins-some, copies-some, run-escape, run-joined, run-copied, run-kept}
+use Rattle.smoothmoves.specs.Laws.{joins-some, copies-some}
+use Rattle.smoothruns.specs.Laws.{run-escape, run-joined, run-copied, run-kept}
 use borrow.Author.Needs.{needs}
 use Rattle.smoothruns.proofs.smooth_run.Statement.{statement}
 use Rattle.smoothruns.proofs.smooth_run.Tie as tie
 use Rattle.smoothruns.proofs.smooth_run.Reads as reads
 use Rattle.smoothruns.proofs.smooth_run.Lts as lts
-use Rattle.smoothruns.proofs.copies.Reads as copies-reads
-use Rattle.smoothruns.proofs.copy_above.Reads as copy-above-reads
-use Rattle.smoothruns.proofs.fill.Reads as fill-reads
-use Rattle.smoothruns.proofs.joins.Reads as joins-reads
+use Rattle.smoothmoves.proofs.copies.Reads as copies-reads
+use Rattle.smoothmoves.proofs.copy_above.Reads as copy-above-reads
+use Rattle.smoothmoves.proofs.fill.Reads as fill-reads
+use Rattle.smoothmoves.proofs.joins.Reads as joins-reads
 
 element-copy-out-if1 : tie.Need-element-copy-out-if1
 element-copy-out-if1 c = omega (arith, c .pre .1, c .pre .2)

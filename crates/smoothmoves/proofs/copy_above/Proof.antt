@@ -1,4 +1,4 @@
--- `smoothruns::copy_above`. The loop's invariant: the places passed are copied.
+-- `smoothmoves::copy_above`. The loop's invariant: the places passed are copied.
 use mathlib.Core.Path.{_≡_, sym, _∙_}
 use Prim.Native.Nat.{ℕ, _+_, _-_, _≤_}
 use native.Mathlib.Omega.{arith}
@@ -6,10 +6,10 @@ use lib.ListN.{set}
 use Rattle.smooth.specs.Smooth.{copiedFrom}
 use Rattle.smooth.specs.Laws.{copied-none, copied-next}
 use borrow.Author.Needs.{needs}
-use Rattle.smoothruns.proofs.copy_above.Statement.{statement}
-use Rattle.smoothruns.proofs.copy_above.Tie as tie
-use Rattle.smoothruns.proofs.copy_above.Reads as reads
-use Rattle.smoothruns.proofs.copy_above.Lts as lts
+use Rattle.smoothmoves.proofs.copy_above.Statement.{statement}
+use Rattle.smoothmoves.proofs.copy_above.Tie as tie
+use Rattle.smoothmoves.proofs.copy_above.Reads as reads
+use Rattle.smoothmoves.proofs.copy_above.Lts as lts
 use Rattle.smooth.proofs.above.Reads as above-reads
 
 abbrev Inv-loop : tie.InvT-loop

@@ -1,13 +1,13 @@
--- `smoothruns::joins`: the tests in their order.
+-- `smoothmoves::joins`: the tests in their order.
 use mathlib.Core.Path.{_≡_, sym, _∙_}
 use native.Mathlib.Omega.{arith}
 use Rattle.smooth.specs.Smooth.{scene}
-use Rattle.smoothruns.specs.Laws.{joins-first, joins-escape, joins-far, joins-cost}
+use Rattle.smoothmoves.specs.Laws.{joins-first, joins-escape, joins-far, joins-cost}
 use borrow.Author.Needs.{needs}
-use Rattle.smoothruns.proofs.joins.Statement.{statement}
-use Rattle.smoothruns.proofs.joins.Tie as tie
-use Rattle.smoothruns.proofs.joins.Reads as reads
-use Rattle.smoothruns.proofs.joins.Lts as lts
+use Rattle.smoothmoves.proofs.joins.Statement.{statement}
+use Rattle.smoothmoves.proofs.joins.Tie as tie
+use Rattle.smoothmoves.proofs.joins.Reads as reads
+use Rattle.smoothmoves.proofs.joins.Lts as lts
 use Rattle.smooth.proofs.colour.Reads as colour-reads
 use Rattle.smoothcosts.proofs.run_cost.Reads as run-cost-reads
 use Rattle.smoothcosts.proofs.run_fits.Reads as run-fits-reads

@@ -1,17 +1,17 @@
--- `smoothing::smooth_block`: the map from the samples in scan order, then the block.
+-- `smoothblock::smooth_block`: the map from the samples in scan order, then the block.
 use mathlib.Core.Path.{_≡_, refl, sym, _∙_}
 use native.Mathlib.Omega.{arith}
 use Rattle.figure.specs.Laws.{inRows}
-use Rattle.smoothing.specs.Laws.{answer-made}
+use Rattle.smoothblock.specs.Laws.{answer-made}
 use borrow.Author.Needs.{needs}
-use Rattle.smoothing.proofs.smooth_block.Statement.{statement}
-use Rattle.smoothing.proofs.smooth_block.Tie as tie
-use Rattle.smoothing.proofs.smooth_block.Reads as reads
-use Rattle.smoothing.proofs.smooth_block.Lts as lts
+use Rattle.smoothblock.proofs.smooth_block.Statement.{statement}
+use Rattle.smoothblock.proofs.smooth_block.Tie as tie
+use Rattle.smoothblock.proofs.smooth_block.Reads as reads
+use Rattle.smoothblock.proofs.smooth_block.Lts as lts
 use Rattle.entries.proofs.pack_palette.Reads as pack-palette-reads
 use Rattle.figure.proofs.unroll.Reads as unroll-reads
-use Rattle.smoothing.proofs.escape_of.Reads as escape-of-reads
-use Rattle.smoothing.proofs.with_map.Reads as with-map-reads
+use Rattle.smoothblock.proofs.escape_of.Reads as escape-of-reads
+use Rattle.smoothblock.proofs.with_map.Reads as with-map-reads
 use Rattle.smoothruns.proofs.smooth.Reads as smooth-reads
 
 pack-palette-requires : tie.Need-pack-palette-requires

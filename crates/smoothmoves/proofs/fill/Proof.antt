@@ -1,13 +1,13 @@
--- `smoothruns::fill`. The loop's invariant: the places passed are laid.
+-- `smoothmoves::fill`. The loop's invariant: the places passed are laid.
 use mathlib.Core.Path.{_≡_, sym, refl}
 use Prim.Native.Nat.{ℕ, _+_, _-_, _≤_}
 use native.Mathlib.Omega.{arith}
 use Rattle.base.specs.Cells.{laid, laid-none, laid-step, laid-done}
 use borrow.Author.Needs.{needs}
-use Rattle.smoothruns.proofs.fill.Statement.{statement}
-use Rattle.smoothruns.proofs.fill.Tie as tie
-use Rattle.smoothruns.proofs.fill.Reads as reads
-use Rattle.smoothruns.proofs.fill.Lts as lts
+use Rattle.smoothmoves.proofs.fill.Statement.{statement}
+use Rattle.smoothmoves.proofs.fill.Tie as tie
+use Rattle.smoothmoves.proofs.fill.Reads as reads
+use Rattle.smoothmoves.proofs.fill.Lts as lts
 
 abbrev Inv-loop : tie.InvT-loop
 Inv-loop indices₀ v start len j₀ indices j = (j ≤ len) × (indices ≡ laid (λ (i : ℕ). v) indices₀ start j)

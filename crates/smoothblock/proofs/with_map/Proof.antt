@@ -1,12 +1,12 @@
--- `smoothing::with_map`: the error figure anew, or as it was.
+-- `smoothblock::with_map`: the error figure anew, or as it was.
 use mathlib.Core.Path.{_≡_, sym, _∙_}
 use Rattle.figure.specs.Laws.{inRows}
-use Rattle.smoothing.specs.Laws.{map-moved, map-kept}
+use Rattle.smoothblock.specs.Laws.{map-moved, map-kept}
 use borrow.Author.Needs.{needs}
-use Rattle.smoothing.proofs.with_map.Statement.{statement}
-use Rattle.smoothing.proofs.with_map.Tie as tie
-use Rattle.smoothing.proofs.with_map.Reads as reads
-use Rattle.smoothing.proofs.with_map.Lts as lts
+use Rattle.smoothblock.proofs.with_map.Statement.{statement}
+use Rattle.smoothblock.proofs.with_map.Tie as tie
+use Rattle.smoothblock.proofs.with_map.Reads as reads
+use Rattle.smoothblock.proofs.with_map.Lts as lts
 use Rattle.sse.proofs.block_figure.Reads as block-figure-reads
 
 block-figure-requires : tie.Need-block-figure-requires

@@ -1,13 +1,13 @@
--- `smoothruns::copies`: the tests in their order.
+-- `smoothmoves::copies`: the tests in their order.
 use mathlib.Core.Path.{_≡_, sym, _∙_}
 use native.Mathlib.Omega.{arith}
 use Rattle.smooth.specs.Smooth.{scene}
-use Rattle.smoothruns.specs.Laws.{copies-first, copies-far, copies-cost}
+use Rattle.smoothmoves.specs.Laws.{copies-first, copies-far, copies-cost}
 use borrow.Author.Needs.{needs}
-use Rattle.smoothruns.proofs.copies.Statement.{statement}
-use Rattle.smoothruns.proofs.copies.Tie as tie
-use Rattle.smoothruns.proofs.copies.Reads as reads
-use Rattle.smoothruns.proofs.copies.Lts as lts
+use Rattle.smoothmoves.proofs.copies.Statement.{statement}
+use Rattle.smoothmoves.proofs.copies.Tie as tie
+use Rattle.smoothmoves.proofs.copies.Reads as reads
+use Rattle.smoothmoves.proofs.copies.Lts as lts
 use Rattle.smooth.proofs.colour.Reads as colour-reads
 use Rattle.smoothcosts.proofs.run_above_cost.Reads as run-above-cost-reads
 use Rattle.smoothcosts.proofs.run_above_fits.Reads as run-above-fits-reads

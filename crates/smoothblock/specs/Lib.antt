@@ -1,0 +1,3 @@
+pub mod Block
+pub mod Laws
+pub mod Kept
