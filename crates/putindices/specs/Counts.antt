@@ -25,13 +25,17 @@ pub one-most : (b : Bool) → pick b 0 1 ≤ 1
 one-most true = omega arith
 one-most false = omega arith
 
+final-at : (prev : Bool) (rs : List Run) (j : ℕ) → j < length rs → getD rs j noRun .above ≡ finalOf prev (take (suc j) rs)
+unfolding finalOf
+final-at prev [] j h = absurd (omega arith)
+final-at prev (r ∷ rs) zero h = refl
+final-at prev (r ∷ rs) (suc j) h = final-at (r .above) rs j (omega arith)
+
 -- the kind of the last of the first k runs
 pub final-take : (prev : Bool) (rs : List Run) (k : ℕ) → 0 < k → k ≤ length rs → getD rs (k - 1) noRun .above ≡ finalOf prev (take k rs)
-unfolding finalOf
-final-take prev [] k o h = absurd (omega arith)
-final-take prev (r ∷ rs) zero o h = absurd (omega arith)
-final-take prev (r ∷ rs) (suc zero) o h = refl
-final-take prev (r ∷ rs) (suc (suc k)) o h = final-take (r .above) rs (suc k) (omega arith) (omega arith)
+final-take prev rs k o h =
+    let e : suc (k - 1) ≡ k = omega arith in
+    rw e at (final-at prev rs (k - 1) (omega arith))
 
 pub final-none : (prev : Bool) (rs : List Run) (k : ℕ) → k ≡ 0 → prev ≡ finalOf prev (take k rs)
 unfolding finalOf
