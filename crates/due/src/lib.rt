@@ -8,8 +8,8 @@ use scan::scan_pos;
 
 // The depth of the second and third components: 0 in format 0.
 pub fn chroma_depth(format: u8, depth: u8) -> u32
-    requires { ⌜ depth ≤ 32 ⌝ }
-    ensures { λ r. ⌜ (r ≡ pick (eqb format 0) 0 depth) × (r ≤ 32) ⌝ }
+    requires { ⌜ depth ≤ 16 ⌝ }
+    ensures { λ r. ⌜ (r ≡ pick (eqb format 0) 0 depth) × (r ≤ 16) ⌝ }
 {
     if format == 0 {
         return 0;
