@@ -2,9 +2,10 @@
 use mathlib.Core.Path.{_≡_}
 use mathlib.Core.List.{List}
 use Prim.Native.Nat.{ℕ}
-use lib.ListN.{take, drop, replicate}
+use lib.ListN.{length, take}
 use Rattle.base.specs.Answer.{Answer}
 use Rattle.base.specs.Answer as A
+use Rattle.base.specs.Lists.{padded}
 use Rattle.get.specs.As.{placed}
 use Rattle.syntax.specs.Records.{noRun}
 use Rattle.syntax.specs.Runs.{Run}
@@ -19,6 +20,6 @@ asRun (S.Refused k q) = A.Refused k q
 abbrev pub asRuns : RunsRead → Answer (List Run)
 asRuns r = placed (r .next) (take (r .count) (r .runs))
 
--- an array of runs is blank past its count
+-- an array that holds `count` runs and is blank past them
 abbrev pub RestBlank : ℕ → List Run → Type 0
-RestBlank count runs = drop count runs ≡ drop count (replicate 1024 noRun)
+RestBlank count runs = (runs ≡ padded 1024 noRun (take count runs)) × (length (take count runs) ≡ count)

@@ -8,13 +8,15 @@ use native.Mathlib.Numerals.{add-one}
 use native.Mathlib.Nat.{add-zero}
 use lib.Dec.{ltb, leb, eqb}
 use lib.ListN.{length, take, drop, getD, set, replicate, length-drop}
-use Rattle.base.specs.Lists.{drop-more}
+use Rattle.base.specs.Lists.{drop-more, padded-is}
 use lib.Seq.{drop-cons, getD-take, length-take-le}
 use borrow.Author.Tests.{le-leb, lt-leb, lt-ltb, le-ltb, ltb-false, eq-eqb, ne-eqb, eqb-false}
 use Rattle.base.specs.Pick.{pick, either}
 use Rattle.base.specs.Answer.{Answer, Value, Refused, onward, went, refused-not, same-value, same-place}
 use Rattle.base.specs.Prepend.{prepend, prepend-more}
 use Rattle.h265.specs.RunLaws.{run-code}
+use Rattle.syntax.specs.Records.{noRun}
+use Rattle.getruns.specs.As.{RestBlank}
 use Rattle.syntax.specs.Runs.{Run, kindAt, nextSent, moreAt, runsAt, isLast, reserved}
 
 unfoldable pub sizedAt : ℕ → ℕ → ℕ → Bool → Bool → ℕ → List ℕ → ℕ → Answer Run
@@ -139,3 +141,8 @@ blank-push xs m count x r h = rw (add-one count, drop-set-below xs count r) (rw 
     drop-set-below [] i v = refl
     drop-set-below (x ∷ xs) zero v = refl
     drop-set-below (x ∷ xs) (suc i) v = drop-set-below xs i v
+
+pub blank-end : (xs : List Run) (count : ℕ) → length xs ≡ 1024 → count ≤ 1024 → drop count xs ≡ drop count (replicate 1024 noRun) → RestBlank count xs
+blank-end xs count n h d =
+    let k : length (take count xs) ≡ count = length-take-le count xs (omega arith) in
+    (padded-is noRun xs (take count xs) count 1024 refl d (sym k), k)

@@ -39,7 +39,7 @@ module _ (cu : PaletteCu) (runs : List Run) (count : ℕ) where
 
   pub runs-many : 0 < maxIndex cu → 1024 < count → false ≡ runsHold cu runs count
   unfolding runsHold
-  runs-many o h = rw (lt-ltb 0 (maxIndex cu) o, lt-leb 1024 count h)
+  runs-many o h = rw (lt-ltb 0 (maxIndex cu) o, lt-leb count 1024 h)
 
   pub runs-tested : (t : Bool) → 0 < maxIndex cu → count ≤ 1024 → t ≡ replays (cu .size) (cu .size * cu .size) (maxIndex cu) (take (cu .size * cu .size) (cu .indices)) 0 false (take count runs) → t ≡ runsHold cu runs count
   unfolding runsHold

@@ -23,15 +23,15 @@ final-kind-requires : tie.Need-final-kind-requires
 final-kind-requires c κs = search needs
 
 sub-put-count : tie.Need-sub-put-count
-sub-put-count c = omega (arith, c .before .before .count-index .ensures, first-sent (c .before .before .before .before .args .size) (c .before .before .before .before .args .n) (take (c .before .before .before .before .args .count) (c .before .before .before .before .args .t8)) (omega arith) (omega arith) (c .before .before .before .before .pre .7 .keeps) .0)
+sub-put-count c = omega (arith, c .before .before .count-index .ensures, first-sent (c .before .before .before .before .args .size) (c .before .before .before .before .args .n) (take (c .before .before .before .before .args .count) (c .before .before .before .before .args .runs)) (omega arith) (omega arith) (c .before .before .before .before .pre .7 .keeps) .0)
 
 put-count-requires : tie.Need-put-count-requires
-put-count-requires c κs = (omega arith, omega (arith, c .before .before .count-index .ensures, first-sent (c .before .before .before .before .args .size) (c .before .before .before .before .args .n) (take (c .before .before .before .before .args .count) (c .before .before .before .before .args .t8)) (omega arith) (omega arith) (c .before .before .before .before .pre .7 .keeps) .1), omega arith)
+put-count-requires c κs = (omega arith, omega (arith, c .before .before .count-index .ensures, first-sent (c .before .before .before .before .args .size) (c .before .before .before .before .args .n) (take (c .before .before .before .before .args .count) (c .before .before .before .before .args .runs)) (omega arith) (omega arith) (c .before .before .before .before .pre .7 .keeps) .1), omega arith)
 
 put-indices-requires : tie.Need-put-indices-requires
 put-indices-requires c κs =
     (omega arith, omega arith, omega (arith, c .before .before .before .put-count .ensures .1), omega arith,
-    omega (arith, c .before .before .before .before .before .before .count-index .ensures, first-sent (c .before .before .before .before .before .before .before .before .args .size) (c .before .before .before .before .before .before .before .before .args .n) (take (c .before .before .before .before .before .before .before .before .args .count) (c .before .before .before .before .before .before .before .before .args .t8)) (omega arith) (omega arith) (c .before .before .before .before .before .before .before .before .pre .7 .keeps) .0),
+    omega (arith, c .before .before .before .before .before .before .count-index .ensures, first-sent (c .before .before .before .before .before .before .before .before .args .size) (c .before .before .before .before .before .before .before .before .args .n) (take (c .before .before .before .before .before .before .before .before .args .count) (c .before .before .before .before .before .before .before .before .args .runs)) (omega arith) (omega arith) (c .before .before .before .before .before .before .before .before .pre .7 .keeps) .0),
     rw (c .before .before .before .before .before .before .count-index .ensures) (c .before .before .before .before .before .before .before .before .pre .7 .each))
 
 put-flags-requires : tie.Need-put-flags-requires
@@ -49,7 +49,7 @@ returns : tie.Need-returns
 returns c =
     let g = c .before .before .before .before .before .before .before .before .before .before .before .before .before .before .before .before .before .before .before .args in
     (
-      coded-laid (g .size) (g .n) (g .m) (g .escape) (g .turned) (take (g .count) (g .t8)) (c .before .before .before .before .before .before .before .before .before .before .before .before .before .before .before .before .before .count-index .result) (c .before .before .before .before .before .before .before .before .before .before .before .before .before .before .before .before .final-kind .result) (c .before .before .before .before .before .before .before .before .before .before .before .before .before .before .before .before .before .count-index .ensures) (c .before .before .before .before .before .before .before .before .before .before .before .before .before .before .before .before .final-kind .ensures) (c .before .before .before .before .before .before .before .before .before .before .before .before .before .before .put-count .ensures .0) (c .before .before .before .before .before .before .before .before .before .before .put-indices .ensures .0) (c .before .before .before .before .before .before .put-flags .ensures .0) (c .before .before .put-runs .ensures .0),
+      coded-laid (g .size) (g .n) (g .m) (g .escape) (g .turned) (take (g .count) (g .runs)) (c .before .before .before .before .before .before .before .before .before .before .before .before .before .before .before .before .before .count-index .result) (c .before .before .before .before .before .before .before .before .before .before .before .before .before .before .before .before .final-kind .result) (c .before .before .before .before .before .before .before .before .before .before .before .before .before .before .before .before .before .count-index .ensures) (c .before .before .before .before .before .before .before .before .before .before .before .before .before .before .before .before .final-kind .ensures) (c .before .before .before .before .before .before .before .before .before .before .before .before .before .before .put-count .ensures .0) (c .before .before .before .before .before .before .before .before .before .before .put-indices .ensures .0) (c .before .before .before .before .before .before .put-flags .ensures .0) (c .before .before .put-runs .ensures .0),
       omega (arith, c .before .before .before .before .before .before .before .before .before .before .before .before .before .before .put-count .ensures .1, c .before .before .before .before .before .before .before .before .before .before .put-indices .ensures .1, c .before .before .before .before .before .before .put-flags .ensures .1, c .before .before .put-runs .ensures .1),
     )
 
