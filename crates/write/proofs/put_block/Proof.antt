@@ -1,8 +1,8 @@
 -- `write::put_block`
-use mathlib.Core.Path.{_≡_}
+use mathlib.Core.Path.{_≡_, sym, _∙_}
 use Prim.Native.Nat.{_≤_}
 use native.Mathlib.Omega.{arith}
-use lib.ListN.{length, take}
+use lib.ListN.{length, take, length-map}
 use Rattle.model.specs.Whole.{maxIndex}
 use Rattle.write.specs.Laws.{fit, runs-ready, block-laid}
 use borrow.Author.Needs.{needs}
@@ -50,7 +50,7 @@ same-length c = let f = fit (c .before .before .before .before .before .before .
 returns : tie.Need-returns
 returns c =
     let f = fit (c .before .before .before .before .before .before .before .before .before .before .before .before .before .before .before .before .before .before .before .before .before .before .args .cu) (c .before .before .before .before .before .before .before .before .before .before .before .before .before .before .before .before .before .before .before .before .before .before .pre .0) in
-    let k : length (c .before .before .before .before .before .before .before .before .before .before .before .before .before .before .before .before .before .before .before .before .before .before .args .cu .palette) ≡ 64 = search (needs, c .before .before .before .before .before .before .before .before .before .before .before .before .before .before .before .before .before .before .before .before .before .before .good .1 .0 .1 .1 .1 .1 .1 .1 .1 .0) in
+    let k : length (c .before .before .before .before .before .before .before .before .before .before .before .before .before .before .before .before .before .before .before .before .before .before .args .cu .palette) ≡ 64 = sym (length-map (c .before .before .before .before .before .before .before .before .before .before .before .before .before .before .before .before .before .before .before .before .before .before .args .cu .palette) _) ∙ c .before .before .before .before .before .before .before .before .before .before .before .before .before .before .before .before .before .before .before .before .before .before .good .1 .0 .1 .1 .1 .1 .1 .1 .1 .0 .1 .0 .1 in
     block-laid (c .before .before .before .before .before .before .before .before .before .before .before .before .before .before .before .before .before .before .before .before .before .before .args .cu) (take (c .before .before .before .before .before .before .before .before .before .before .before .before .before .before .before .before .before .before .before .before .before .before .args .count) (c .before .before .before .before .before .before .before .before .before .before .before .before .before .before .before .before .before .before .before .before .before .before .args .runs)) (c .before .before .before .before .before .before .before .before .before .before .before .before .before .before .before .before .before .before .before .greatest .result) f k (c .before .before .before .before .before .before .before .before .before .before .before .before .before .before .before .before .before .before .before .greatest .ensures .0) (c .before .before .before .before .before .before .before .before .before .before .before .before .put-palette .ensures .0) (rw (c .before .before .before .before .before .before .before .before .before .before .before .before .before .before .before .before .before .before .before .before .area .ensures .0) at (c .before .before .before .before .before .before .before .put-map .ensures .0)) (rw (c .before .before .before .before .before .before .before .before .before .before .before .before .before .before .before .before .before .before .before .before .area .ensures .0) at (c .before .before .put-escapes .ensures))
 
 pub put-block-spec : {M : Type 1} → statement M

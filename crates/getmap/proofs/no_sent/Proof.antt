@@ -1,0 +1,7 @@
+-- DUMMY
+use borrow.Author.Needs.{needs}
+use Rattle.getmap.proofs.no_sent.Statement.{statement}
+use Rattle.getmap.proofs.no_sent.Tie as tie
+
+pub no-sent-spec : {M : Type 1} → statement M
+no-sent-spec = ?
