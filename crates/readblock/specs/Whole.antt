@@ -58,7 +58,7 @@ module _ (size format luma chroma : ℕ) (lossless : Bool) (old : List Entry) (c
 
   pub record Got (pal : PaletteRead) (q : ℕ) : Type 0 where
     pub ok : PaletteOk call (palOf count pal)
-    pub at : paletteAt call l 0 ≡ Value (palOf count pal) q
+    pub found : paletteAt call l 0 ≡ Value (palOf count pal) q
     pub is : pal ≡ paletteRead old (Value (palOf count pal) q)
     pub size-most : pal .size ≤ 64
     pub colours-are : colours (palOf count pal) ≡ pal .size
@@ -90,7 +90,7 @@ module _ (size format luma chroma : ℕ) (lossless : Bool) (old : List Entry) (c
           let s : pal .size ≡ colours x = ap (λ (r : PaletteRead). r .size) v in
           record {
             ok = subst (PaletteOk call) (sym y) k;
-            at = f ∙ rw (y, b);
+            found = f ∙ rw (y, b);
             is = v ∙ rw (y, b);
             size-most = omega (arith, k .limit);
             colours-are = ap colours y ∙ sym s;
@@ -118,4 +118,4 @@ module _ (size format luma chroma : ℕ) (lossless : Bool) (old : List Entry) (c
       go (Refused k r) = refl
 
   pub palette-on : (pal : PaletteRead) (q : ℕ) → Got pal q → madeOf bare count pal (restAt bare (palOf count pal) l q) ≡ answerOf call (readBlock call l 0)
-  palette-on pal q g = whole pal (palOf count pal) q (g .ok) (g .at) (g .is)
+  palette-on pal q g = whole pal (palOf count pal) q (g .ok) (g .found) (g .is)

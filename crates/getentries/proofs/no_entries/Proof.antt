@@ -1,0 +1,7 @@
+-- DUMMY
+use borrow.Author.Needs.{needs}
+use Rattle.getentries.proofs.no_entries.Statement.{statement}
+use Rattle.getentries.proofs.no_entries.Tie as tie
+
+pub no-entries-spec : {M : Type 1} → statement M
+no-entries-spec = ?
