@@ -90,7 +90,7 @@ module _ (limit format luma chroma : ℕ) (old : List Entry) (fs : List Bool) (r
           let k : length (chosen fs old) ≡ reused = n ∙ sym s in
           let m : length es ≡ new = entries-code (lent 0 format luma chroma []) new .back l q r es g .1 .count in
           let z : palette ≡ padded 64 noColor (chosen fs old ++ es) = w ∙ ap (λ (x : List Entry). padded 64 noColor (x ++ es)) (ap (take reused) a ∙ padded-take 64 noColor (chosen fs old) reused k) in
-          rw (← s, h, same-entries new q ∙ g, e, m, f, z)
+          rw (← s, h, same-entries new q ∙ g, e, m, f, z, ← s)
 
 -- ---- the entries that are marked
 

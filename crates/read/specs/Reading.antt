@@ -6,9 +6,10 @@ use Prim.Native.Nat.{ℕ, _*_, _≤_, _<_}
 use native.Mathlib.Omega.{arith}
 use lib.Dec.{leb, eqb}
 use lib.ListN.{take}
-use borrow.Author.Tests.{le-leb, lt-leb, leb-true}
+use borrow.Author.Tests.{leb-true, ne-eqb}
 use Rattle.base.specs.Answer.{Answer, Refused}
 use Rattle.base.specs.Pick.{pick}
+use Rattle.base.specs.Refusals.{refused-not}
 use Rattle.base.specs.Tests.{every, refusal, both}
 use Rattle.model.specs.ConfigLaws.{depth-bounds}
 use Rattle.model.specs.Domain.{depthIn, sizeIn, evenIn, predictorIn}
@@ -54,36 +55,33 @@ pub record Fit (size luma chroma : ℕ) (p : PalettePredictor) : Type 0 where
   pub chroma-most : chroma ≤ 12
   pub entries : p .size ≤ 128
 
-module _ (size format luma chroma : ℕ) (lossless : Bool) (p : PalettePredictor) (room : ℕ) (l : List ℕ) where
-  pub size-most : sizesIn format size ≡ true → size ≤ 32
-  unfolding sizesIn
-  size-most b = size-bounds size (both (sizeIn size) _ b .0) .1
+pub size-most : (size format : ℕ) → sizesIn format size ≡ true → size ≤ 32
+unfolding sizesIn
+size-most size format b = size-bounds size (both (sizeIn size) _ b .0) .1
 
-  pub fit : formatsIn format luma chroma ≡ true → sizesIn format size ≡ true → predictorIn format luma chroma p ≡ true → Fit size luma chroma p
-  unfolding formatsIn sizesIn predictorIn
-  fit a b c =
-      let f = both (leb format 3) _ a in
-      let d = both (depthIn luma) _ (f .1) in
-      let e = both (depthIn chroma) true (d .1) in
-      let s = size-bounds size (both (sizeIn size) _ b .0) in
-      record { least = s .0; most = s .1; luma-most = depth-bounds luma (d .0) .1; chroma-most = depth-bounds chroma (e .0) .1; entries = leb-true _ _ (both (leb (p .size) 128) _ c .0) }
+fit-of : (size format luma chroma : ℕ) (p : PalettePredictor) → formatsIn format luma chroma ≡ true → sizesIn format size ≡ true → predictorIn format luma chroma p ≡ true → Fit size luma chroma p
+unfolding formatsIn sizesIn predictorIn
+fit-of size format luma chroma p a b c =
+    let f = both (leb format 3) _ a in
+    let d = both (depthIn luma) _ (f .1) in
+    let e = both (depthIn chroma) true (d .1) in
+    let s = size-bounds size (both (sizeIn size) _ b .0) in
+    record { least = s .0; most = s .1; luma-most = depth-bounds luma (d .0) .1; chroma-most = depth-bounds chroma (e .0) .1; entries = leb-true _ _ (both (leb (p .size) 128) _ c .0) }
 
-  pub read-one : formatsIn format luma chroma ≡ false → refusedOf 1 0 ≡ readOf size format luma chroma lossless p room l
-  unfolding readOf readAnswer readRefusal answerOf
-  read-one a = rw a
+module _ (size format luma chroma : ℕ) (p : PalettePredictor) (room : ℕ) where
+  pub fit : readRefusal size format luma chroma p room ≡ 0 → Fit size luma chroma p
+  unfolding readRefusal
+  fit e =
+      let a = refused-not (formatsIn format luma chroma) 1 _ (omega arith) e in
+      let b = refused-not (sizesIn format size) 2 _ (omega arith) (a .1) in
+      let c = refused-not (predictorIn format luma chroma p) 5 _ (omega arith) (b .1) in
+      fit-of size format luma chroma p (a .0) (b .0) (c .0)
 
-  pub read-two : formatsIn format luma chroma ≡ true → sizesIn format size ≡ false → refusedOf 2 0 ≡ readOf size format luma chroma lossless p room l
-  unfolding readOf readAnswer readRefusal answerOf
-  read-two a b = rw (a, b)
+  module _ (lossless : Bool) (l : List ℕ) where
+    pub read-refused : (k : ℕ) → k ≡ readRefusal size format luma chroma p room → (k ≡ 0 → ⊥) → refusedOf k 0 ≡ readOf size format luma chroma lossless p room l
+    unfolding readOf readAnswer answerOf
+    read-refused k e o = rw (← e, ne-eqb k 0 o)
 
-  pub read-five : formatsIn format luma chroma ≡ true → sizesIn format size ≡ true → predictorIn format luma chroma p ≡ false → refusedOf 5 0 ≡ readOf size format luma chroma lossless p room l
-  unfolding readOf readAnswer readRefusal answerOf
-  read-five a b c = rw (a, b, c)
-
-  pub read-nine : formatsIn format luma chroma ≡ true → sizesIn format size ≡ true → predictorIn format luma chroma p ≡ true → room < size * size → refusedOf 9 0 ≡ readOf size format luma chroma lossless p room l
-  unfolding readOf readAnswer readRefusal answerOf
-  read-nine a b c d = rw (a, b, c, lt-leb (size * size) room d)
-
-  pub read-done : formatsIn format luma chroma ≡ true → sizesIn format size ≡ true → predictorIn format luma chroma p ≡ true → size * size ≤ room → answerOf (callWith size format luma chroma lossless p) (readBlock (callWith size format luma chroma lossless p) l 0) ≡ readOf size format luma chroma lossless p room l
-  unfolding readOf readAnswer readRefusal
-  read-done a b c d = rw (a, b, c, le-leb (size * size) room d)
+    pub read-done : readRefusal size format luma chroma p room ≡ 0 → answerOf (callWith size format luma chroma lossless p) (readBlock (callWith size format luma chroma lossless p) l 0) ≡ readOf size format luma chroma lossless p room l
+    unfolding readOf readAnswer
+    read-done e = rw e

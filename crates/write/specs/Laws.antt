@@ -11,6 +11,7 @@ use lib.Seq.{sets, length-take-le}
 use borrow.Author.Tests.{lt-ltb, le-ltb, le-leb, lt-leb, leb-true, ne-eqb}
 use Rattle.base.specs.Laid.{Laid, laid-then}
 use Rattle.base.specs.Pick.{pick}
+use Rattle.base.specs.Refusals.{Numbered, refused-early, refused-late, refused-not}
 use Rattle.base.specs.Tests.{every, refusal, both}
 use Rattle.model.specs.ConfigLaws.{depth-bounds}
 use Rattle.model.specs.declared.PaletteCu.{PaletteCu}
@@ -82,6 +83,10 @@ fit cu e =
 
 -- ---- the three parts
 
+-- the palette's bins, in the code's numbers
+abbrev pub headOf : PaletteCu → List ℕ
+headOf cu = paletteBins (P.lent 64 (cu .«chroma_idc») (cu .«bd_luma») (cu .«bd_chroma»)) (record { flags = take (cu .«pred_size») (cu .reused); fresh = drop (cu .«palette_size» - cu .«num_signaled») (take (cu .«palette_size») (cu .palette)); escape = cu .«escape_present» })
+
 palette-same : (cu : PaletteCu) (x : Palette) → paletteBins (callOf 64 [] cu) x ≡ paletteBins (P.lent 64 (cu .«chroma_idc») (cu .«bd_luma») (cu .«bd_chroma»)) x
 unfolding paletteBins entriesBins
 palette-same cu x = refl
@@ -92,7 +97,7 @@ the-colours cu f k =
 
 pub block-laid : {l₀ l₁ l₂ l₃ : List ℕ} {p q r : ℕ} (cu : PaletteCu) (rs : List Run) (m : ℕ) → Fit cu → length (cu .palette) ≡ 64 →
     m ≡ cu .«palette_size» + bit (cu .«escape_present») - 1 →
-    Laid l₀ 0 (paletteBins (P.lent 64 (cu .«chroma_idc») (cu .«bd_luma») (cu .«bd_chroma»)) (record { flags = take (cu .«pred_size») (cu .reused); fresh = drop (cu .«palette_size» - cu .«num_signaled») (take (cu .«palette_size») (cu .palette)); escape = cu .«escape_present» })) p l₁ →
+    Laid l₀ 0 (headOf cu) p l₁ →
     Laid l₁ p (mapBins (cu .size) (cu .size * cu .size) m (cu .«escape_present») (record { turned = cu .transpose; runs = rs })) q l₂ →
     Laid l₂ q (pick (cu .«escape_present») (levelsOf (cu .«chroma_idc») (cu .size) (cu .transpose) (cu .lossless) (cu .«bd_luma») (cu .«bd_chroma») (cu .«palette_size») (take (cu .size * cu .size) (cu .indices)) (take (cu .size * cu .size) (cu .escapes))) []) r l₃ →
     Laid l₀ 0 (binsOf cu rs) r l₃
@@ -108,28 +113,37 @@ module _ (cu : PaletteCu) (runs : List Run) (count : ℕ) (l : List ℕ) where
   abbrev pub Wrote : Written → List ℕ → Type 0
   Wrote r m = (r ≡ writeOf cu runs count (length l)) × (m ≡ listAfter cu runs count l)
 
+  -- the tests that need no bins
+  abbrev early : List (Bool × ℕ)
+  early = (blockSizeIn cu, 2) ∷ (holds 64 cu, 7) ∷ (runsHold cu runs count, 8) ∷ []
+
+  abbrev late : List (Bool × ℕ)
+  late = (leb (length (binsOf cu (take count runs))) (length l), 9) ∷ []
+
+  numbered : Numbered early
+  numbered = (omega arith, omega arith, omega arith, tt)
+
+  pub early-not : refusal early ≡ 0 → (holds 64 cu ≡ true) × (runsHold cu runs count ≡ true)
+  early-not e =
+      let a = refused-not (blockSizeIn cu) 2 _ (omega arith) e in
+      let b = refused-not (holds 64 cu) 7 _ (omega arith) (a .1) in
+      (b .0, refused-not (runsHold cu runs count) 8 _ (omega arith) (b .1) .0)
+
   write-refused : (k : ℕ) (r : Written) → r ≡ record { refusal = k; bins = 0 } → writeRefusal cu runs count (length l) ≡ k → 1 ≤ k → Wrote r l
   unfolding writeOf listAfter
   write-refused k r z e o = (z ∙ rw (e, ne-eqb k 0 (λ y. omega arith)), rw (e, ne-eqb k 0 (λ y. omega arith)))
 
-  pub write-two : (r : Written) → r ≡ record { refusal = 2; bins = 0 } → blockSizeIn cu ≡ false → Wrote r l
+  pub write-early : (k : ℕ) (r : Written) → r ≡ record { refusal = k; bins = 0 } → k ≡ refusal early → (k ≡ 0 → ⊥) → Wrote r l
   unfolding writeRefusal
-  write-two r z a = write-refused 2 r z (rw a) (omega arith)
+  write-early k r z e o = let p : 1 ≤ k = omega arith in write-refused k r z (refused-early early late k numbered (sym e) p) p
 
-  pub write-seven : (r : Written) → r ≡ record { refusal = 7; bins = 0 } → blockSizeIn cu ≡ true → holds 64 cu ≡ false → Wrote r l
+  pub write-nine : (r : Written) → r ≡ record { refusal = 9; bins = 0 } → refusal early ≡ 0 → length l < length (binsOf cu (take count runs)) → Wrote r l
   unfolding writeRefusal
-  write-seven r z a b = write-refused 7 r z (rw (a, b)) (omega arith)
+  write-nine r z e d = write-refused 9 r z (refused-late early late numbered e ∙ rw (lt-leb (length (binsOf cu (take count runs))) (length l) d)) (omega arith)
 
-  pub write-eight : (r : Written) → r ≡ record { refusal = 8; bins = 0 } → blockSizeIn cu ≡ true → holds 64 cu ≡ true → runsHold cu runs count ≡ false → Wrote r l
-  unfolding writeRefusal
-  write-eight r z a b c = write-refused 8 r z (rw (a, b, c)) (omega arith)
-
-  pub write-nine : (r : Written) → r ≡ record { refusal = 9; bins = 0 } → blockSizeIn cu ≡ true → holds 64 cu ≡ true → runsHold cu runs count ≡ true → length l < length (binsOf cu (take count runs)) → Wrote r l
-  unfolding writeRefusal
-  write-nine r z a b c d = write-refused 9 r z (rw (a, b, c, lt-leb _ _ d)) (omega arith)
-
-  pub write-done : (n : ℕ) (m : List ℕ) → blockSizeIn cu ≡ true → holds 64 cu ≡ true → runsHold cu runs count ≡ true → length (binsOf cu (take count runs)) ≤ length l → Laid l 0 (binsOf cu (take count runs)) n m → Wrote (record { refusal = 0; bins = n }) m
+  pub write-done : (n : ℕ) (m : List ℕ) → refusal early ≡ 0 → length (binsOf cu (take count runs)) ≤ length l → Laid l 0 (binsOf cu (take count runs)) n m → Wrote (record { refusal = 0; bins = n }) m
   unfolding writeOf listAfter writeRefusal
-  write-done n m a b c d e =
+  write-done n m a d e =
       let k : n ≡ length (binsOf cu (take count runs)) = omega (arith, e .next) in
-      (rw (a, b, c, le-leb _ _ d, k), rw (a, b, c, le-leb _ _ d) (e .after))
+      let z : refusal ((blockSizeIn cu, 2) ∷ (holds 64 cu, 7) ∷ (runsHold cu runs count, 8) ∷ (leb (length (binsOf cu (take count runs))) (length l), 9) ∷ []) ≡ 0 = refused-late early late numbered a ∙ rw (le-leb (length (binsOf cu (take count runs))) (length l) d) in
+      (rw (z, k), rw z (e .after))

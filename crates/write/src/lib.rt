@@ -1,12 +1,15 @@
 // A palette block with its runs, written onto a lent bin list.
 ghost use mathlib.Core.Path.{_≡_};
 ghost use mathlib.Core.Bool.{true};
+ghost use mathlib.Core.List.{[], _∷_};
 ghost use Prim.Native.Nat.{_+_, _-_, _*_, _≤_};
 ghost use lib.ListN.{take, length};
 ghost use Rattle.base.specs.Laid.{Laid};
+ghost use Rattle.base.specs.Tests.{refusal};
 ghost use Rattle.h265.specs.Strings.{bit};
-ghost use Rattle.model.specs.Whole.{holds};
+ghost use Rattle.model.specs.Whole.{blockSizeIn, holds};
 ghost use Rattle.write.specs.Write.{binsOf, runsHold, writeOf, listAfter};
+ghost use Rattle.write.specs.Laws.{headOf};
 use model::PaletteCu;
 use model::PaletteRun;
 use putescapes::put_escapes;
@@ -61,18 +64,15 @@ fn runs_hold(cu: PaletteCu, runs: [PaletteRun; 1024], count: usize) -> bool
     replays_to(&cells, cu.size, n, m, runs, count)
 }
 
-// The block's bins: palette, index map, escape levels.
-fn put_block(list: &mut [u8], cu: PaletteCu, runs: [PaletteRun; 1024], count: usize) -> usize
-    requires { ⌜ (holds 64 cu ≡ true) × (runsHold cu runs count ≡ true) ⌝ }
-    ensures { λ r. ⌜ Laid (now (list .entry)) 0 (binsOf cu (take count runs)) r (now (list .exit)) ⌝ }
+// The palette's bins.
+fn put_head(list: &mut [u8], cu: PaletteCu) -> usize
+    requires { ⌜ holds 64 cu ≡ true ⌝ }
+    ensures laid { λ r. ⌜ Laid (now (list .entry)) 0 (headOf cu) r (now (list .exit)) ⌝ }
+    ensures near { λ r. ⌜ r ≤ 16384 ⌝ }
 {
-    let n = area(cu.size);
-    let m = greatest(cu.palette_size, cu.escape_present);
     let flags = cu.reused;
     let palette = cu.palette;
-    let indices = cu.indices;
-    let escapes = cu.escapes;
-    let p = put_palette(
+    put_palette(
         list,
         0,
         64,
@@ -85,18 +85,24 @@ fn put_block(list: &mut [u8], cu: PaletteCu, runs: [PaletteRun; 1024], count: us
         cu.palette_size - cu.num_signaled,
         cu.palette_size,
         cu.escape_present,
-    );
-    let q = put_map(
-        list,
-        p,
-        cu.size as u32,
-        n as u32,
-        m,
-        cu.escape_present,
-        cu.transpose,
-        runs,
-        count,
-    );
+    )
+}
+
+// The block's bins: palette, index map, escape levels.
+fn put_block(list: &mut [u8], cu: PaletteCu, runs: [PaletteRun; 1024], count: usize) -> usize
+    requires { ⌜ (holds 64 cu ≡ true) × (runsHold cu runs count ≡ true) ⌝ }
+    ensures { λ r. ⌜ Laid (now (list .entry)) 0 (binsOf cu (take count runs)) r (now (list .exit)) ⌝ }
+{
+    let n = area(cu.size);
+    let m = greatest(cu.palette_size, cu.escape_present);
+    let size = cu.size as u32;
+    let cells = n as u32;
+    let escape = cu.escape_present;
+    let turned = cu.transpose;
+    let indices = cu.indices;
+    let escapes = cu.escapes;
+    let p = put_head(list, cu);
+    let q = put_map(list, p, size, cells, m, escape, turned, runs, count);
     put_escapes(
         list,
         q,
@@ -104,14 +110,30 @@ fn put_block(list: &mut [u8], cu: PaletteCu, runs: [PaletteRun; 1024], count: us
         escapes,
         n,
         cu.palette_size as u8,
-        cu.escape_present,
+        escape,
         cu.chroma_idc,
         cu.size,
-        cu.transpose,
+        turned,
         cu.lossless,
         cu.bd_luma,
         cu.bd_chroma,
     )
+}
+
+// The number of the first refusal that needs no bins; 0 where there is none.
+fn refusal_of(cu: PaletteCu, runs: [PaletteRun; 1024], count: usize) -> u8
+    ensures { λ r. ⌜ r ≡ refusal ((blockSizeIn cu, 2) ∷ (holds 64 cu, 7) ∷ (runsHold cu runs count, 8) ∷ []) ⌝ }
+{
+    if block_size_in(cu) {
+        if holds_together(64, cu) {
+            if runs_hold(cu, runs, count) {
+                return 0;
+            }
+            return 8;
+        }
+        return 7;
+    }
+    2
 }
 
 // A refusal.
@@ -133,20 +155,15 @@ pub fn write_palette_cu(
 ) -> Written
     ensures { λ r. ⌜ (r ≡ writeOf cu runs count (length (now (list .entry)))) × (now (list .exit) ≡ listAfter cu runs count (now (list .entry))) ⌝ }
 {
-    if block_size_in(cu) {
-        if holds_together(64, cu) {
-            if runs_hold(cu, runs, count) {
-                let mut none = [0u8; 1];
-                let k = put_block(&mut none[..0], cu, runs, count);
-                if list.len() < k {
-                    return refused(9);
-                }
-                let bins = put_block(list, cu, runs, count);
-                return Written { refusal: 0, bins };
-            }
-            return refused(8);
+    let k = refusal_of(cu, runs, count);
+    if k == 0 {
+        let mut none = [0u8; 1];
+        let length = put_block(&mut none[..0], cu, runs, count);
+        if list.len() < length {
+            return refused(9);
         }
-        return refused(7);
+        let bins = put_block(list, cu, runs, count);
+        return Written { refusal: 0, bins };
     }
-    refused(2)
+    refused(k)
 }
