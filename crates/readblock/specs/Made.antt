@@ -126,7 +126,7 @@ module _ (size n m : ℕ) (turned : Bool) (rs : List Run) where
   unfolding cellsOf
   cells-none e h =
       let z : n + (1024 - n) ≡ 1024 = omega arith in
-      rw (e, length-replicate n 0, replicate-append-replicate n (1024 - n) 0, z)
+      rw (e, length-replicate {A = ℕ} n 0, replicate-append-replicate {A = ℕ} n (1024 - n) 0, z)
 
   pub cells-some : 1 ≤ m → replay size false [] rs ≡ cellsOf size n m the-map
   unfolding cellsOf
@@ -137,7 +137,7 @@ module _ (size n m : ℕ) (turned : Bool) (rs : List Run) where
   cells-length ok =
       either (ltb 0 m)
       (λ t. rw t (length-replay size n 0 false [] rs refl (ok .coded (ltb-true 0 m t) .keeps)))
-      (λ t. rw t (length-replicate n 0))
+      (λ t. rw t (length-replicate {A = ℕ} n 0))
 
 under-short : (m k : ℕ) (is : List ℕ) → m ≤ 64 → Each Under (replicate k m) is → All (λ v. v < 255) is
 under-short m zero [] h e = tt

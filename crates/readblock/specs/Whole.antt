@@ -91,7 +91,7 @@ module _ (size format luma chroma : ℕ) (lossless : Bool) (old : List Entry) (c
           record {
             ok = subst (PaletteOk call) (sym y) k;
             found = f ∙ rw (y, b);
-            is = v ∙ rw (y, b);
+            is = v ∙ (ap (λ (w : Palette). paletteRead old (Value w t)) (sym y) ∙ ap (λ (u : ℕ). paletteRead old (Value (palOf count pal) u)) b);
             size-most = omega (arith, k .limit);
             colours-are = ap colours y ∙ sym s;
           }
