@@ -72,9 +72,9 @@ module _ (size format luma chroma : ℕ) (p : PalettePredictor) (room : ℕ) whe
   pub fit : readRefusal size format luma chroma p room ≡ 0 → Fit size luma chroma p
   unfolding readRefusal
   fit e =
-      let a = refused-not (formatsIn format luma chroma) 1 _ (omega arith) e in
-      let b = refused-not (sizesIn format size) 2 _ (omega arith) (a .1) in
-      let c = refused-not (predictorIn format luma chroma p) 5 _ (omega arith) (b .1) in
+      let a = refused-not (formatsIn format luma chroma) 1 ((sizesIn format size, 2) ∷ (predictorIn format luma chroma p, 5) ∷ (leb (size * size) room, 9) ∷ []) (omega arith) e in
+      let b = refused-not (sizesIn format size) 2 ((predictorIn format luma chroma p, 5) ∷ (leb (size * size) room, 9) ∷ []) (omega arith) (a .1) in
+      let c = refused-not (predictorIn format luma chroma p) 5 ((leb (size * size) room, 9) ∷ []) (omega arith) (b .1) in
       fit-of size format luma chroma p (a .0) (b .0) (c .0)
 
   module _ (lossless : Bool) (l : List ℕ) where

@@ -121,13 +121,13 @@ module _ (cu : PaletteCu) (runs : List Run) (count : ℕ) (l : List ℕ) where
   late = (leb (length (binsOf cu (take count runs))) (length l), 9) ∷ []
 
   numbered : Numbered early
-  numbered = (omega arith, omega arith, omega arith, tt)
+  numbered = (omega arith, (omega arith, (omega arith, tt)))
 
   pub early-not : refusal early ≡ 0 → (holds 64 cu ≡ true) × (runsHold cu runs count ≡ true)
   early-not e =
-      let a = refused-not (blockSizeIn cu) 2 _ (omega arith) e in
-      let b = refused-not (holds 64 cu) 7 _ (omega arith) (a .1) in
-      (b .0, refused-not (runsHold cu runs count) 8 _ (omega arith) (b .1) .0)
+      let a = refused-not (blockSizeIn cu) 2 ((holds 64 cu, 7) ∷ (runsHold cu runs count, 8) ∷ []) (omega arith) e in
+      let b = refused-not (holds 64 cu) 7 ((runsHold cu runs count, 8) ∷ []) (omega arith) (a .1) in
+      (b .0, refused-not (runsHold cu runs count) 8 [] (omega arith) (b .1) .0)
 
   write-refused : (k : ℕ) (r : Written) → r ≡ record { refusal = k; bins = 0 } → writeRefusal cu runs count (length l) ≡ k → 1 ≤ k → Wrote r l
   unfolding writeOf listAfter
