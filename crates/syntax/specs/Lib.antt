@@ -15,3 +15,6 @@ pub mod RunTurns
 pub mod Entry
 pub mod BlockPlaces
 pub mod Figures
+pub mod Records
+pub mod Ready
+pub mod EachTurns

@@ -40,7 +40,7 @@ all-each m zero (i ∷ is) h = absurd h
 all-each m (suc k) [] h = absurd h
 all-each m (suc k) (i ∷ is) h = (h .0, all-each m k is (h .1))
 
-first-each : (m : ℕ) (is : List ℕ) → 1 ≤ length is → First m is → Each Under (alphabets m (length is - 1)) is
+pub first-each : (m : ℕ) (is : List ℕ) → 1 ≤ length is → First m is → Each Under (alphabets m (length is - 1)) is
 first-each m [] o h = absurd (omega arith)
 first-each m (i ∷ is) o h = let e : suc (length is) - 1 ≡ length is = omega arith in rw e (h .0, each-all m is (h .1))
 

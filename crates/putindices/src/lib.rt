@@ -1,0 +1,83 @@
+// The writer of the indices sent, one for each index run, onto a lent bin list; and what it learns of a run list first.
+ghost use mathlib.Core.Path.{_≡_};
+ghost use mathlib.Core.Bool.{false};
+ghost use mathlib.Core.List.{[]};
+ghost use Prim.Native.Nat.{_+_, _-_, _^_, _≤_, _<_};
+ghost use lib.Dec.{eqb};
+ghost use lib.ListN.{length, take};
+ghost use Rattle.base.specs.Codes.{eachBins, Each};
+ghost use Rattle.base.specs.Laid.{Laid};
+ghost use Rattle.base.specs.Pick.{pick};
+ghost use Rattle.h265.specs.Strings.{tb};
+ghost use Rattle.syntax.specs.Block.{alphabets};
+ghost use Rattle.syntax.specs.MapLaws.{Under};
+ghost use Rattle.syntax.specs.Runs.{sentOf, finalOf};
+use model::PaletteRun;
+use put::put_tb;
+use runstate::alphabet;
+use runstate::used_after;
+
+// How many of the first `count` runs are index runs.
+pub fn count_index(runs: [PaletteRun; 1024], count: usize) -> u32
+    requires { ⌜ count ≤ 1024 ⌝ }
+    ensures { λ r. ⌜ r ≡ length (sentOf (take count runs)) ⌝ }
+{
+    let mut k: u32 = 0;
+    let mut i: usize = 0;
+    while i < count {
+        let r = runs[i];
+        k = used_after(k, r.above);
+        i += 1;
+    }
+    k
+}
+
+// The kind of the last of the first `count` runs.
+pub fn final_kind(runs: [PaletteRun; 1024], count: usize) -> bool
+    requires { ⌜ count ≤ 1024 ⌝ }
+    ensures { λ r. ⌜ r ≡ finalOf false (take count runs) ⌝ }
+{
+    if count == 0 {
+        return false;
+    }
+    let r = runs[count - 1];
+    r.above
+}
+
+// The index of one run, where it has one; k index runs came before.
+fn put_index(list: &mut [u8], at: usize, m: u32, k: u32, above: bool, sent: u32) -> usize
+    requires { ⌜ (1 ≤ m) × (m ≤ 64) × (at + 32 < 2 ^ 63) × (above ≡ false → sent < pick (eqb k 0) (m + 1) m) ⌝ }
+    ensures laid { λ r. ⌜ Laid (now (list .entry)) at (pick above [] (tb (pick (eqb k 0) (m + 1) m) sent)) r (now (list .exit)) ⌝ }
+    ensures near { λ r. ⌜ r ≤ at + 32 ⌝ }
+{
+    if above {
+        return at;
+    }
+    let n = alphabet(m, k);
+    put_tb(list, at, n, sent)
+}
+
+// The indices of the first `count` runs, of which `total` are index runs.
+pub fn put_indices(
+    list: &mut [u8],
+    at: usize,
+    m: u32,
+    runs: [PaletteRun; 1024],
+    count: usize,
+    total: u32,
+) -> usize
+    requires { ⌜ (1 ≤ m) × (m ≤ 64) × (at < 2 ^ 62) × (count ≤ 1024) × (1 ≤ total) × Each Under (alphabets m (total - 1)) (sentOf (take count runs)) ⌝ }
+    ensures laid { λ r. ⌜ Laid (now (list .entry)) at (eachBins tb (alphabets m (total - 1)) (sentOf (take count runs))) r (now (list .exit)) ⌝ }
+    ensures near { λ r. ⌜ r ≤ at + 32768 ⌝ }
+{
+    let mut to = at;
+    let mut k: u32 = 0;
+    let mut i: usize = 0;
+    while i < count {
+        let r = runs[i];
+        to = put_index(list, to, m, k, r.above, r.sent);
+        k = used_after(k, r.above);
+        i += 1;
+    }
+    to
+}
