@@ -27,14 +27,7 @@ fn sizes_in(format: u8, size: usize) -> bool
 }
 
 // The number of the first refusal that needs no bins; 0 where there is none.
-fn refusal_of(
-    size: usize,
-    format: u8,
-    luma: u8,
-    chroma: u8,
-    p: PalettePredictor,
-    room: usize,
-) -> u8
+fn refusal_of(size: usize, format: u8, luma: u8, chroma: u8, p: PalettePredictor, room: usize) -> u8
     ensures { λ r. ⌜ r ≡ readRefusal size format luma chroma p room ⌝ }
 {
     if formats_in(format, luma, chroma) {
