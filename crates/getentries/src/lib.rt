@@ -96,14 +96,7 @@ fn no_entries(no: u8, q: usize) -> EntriesRead
 }
 
 // n entries, component by component.
-pub fn entries_at(
-    list: &[u8],
-    at: usize,
-    n: usize,
-    format: u8,
-    luma: u8,
-    chroma: u8,
-) -> EntriesRead
+pub fn entries_at(list: &[u8], at: usize, n: usize, format: u8, luma: u8, chroma: u8) -> EntriesRead
     requires { ⌜ (n ≤ 64) × (luma ≤ 12) × (chroma ≤ 12) ⌝ }
     ensures { λ r. ⌜ asEntries n r ≡ entriesAt (lent 0 format luma chroma []) n (now (list .entry)) at ⌝ }
 {

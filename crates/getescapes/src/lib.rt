@@ -140,7 +140,20 @@ fn third_at(
     requires { ⌜ (1 ≤ size) × (n ≤ 1024) × (depth ≤ 16) ⌝ }
     ensures { λ r. ⌜ asLevels n r ≡ thirdAt escape format size turned lossless depth e (take n indices) (take n y) (take n cb) (now (list .entry)) at ⌝ }
 {
-    let got = column_at(list, at, indices, n, e, escape, 2, format, size, turned, lossless, depth);
+    let got = column_at(
+        list,
+        at,
+        indices,
+        n,
+        e,
+        escape,
+        2,
+        format,
+        size,
+        turned,
+        lossless,
+        depth,
+    );
     let next = got.next;
     let cr = got.values;
     LevelsRead { next, y, cb, cr }
@@ -178,19 +191,59 @@ pub fn levels_at(
 {
     let d = chroma_depth(format, chroma);
     let l = luma as u32;
-    let ys = column_at(list, at, indices, n, e, escape, 0, format, size, turned, lossless, l);
+    let ys = column_at(
+        list,
+        at,
+        indices,
+        n,
+        e,
+        escape,
+        0,
+        format,
+        size,
+        turned,
+        lossless,
+        l,
+    );
     let g = ys.next;
     match g {
         Next::Refused(no, q) => no_levels(no, q),
         Next::At(q) => {
-            let us = column_at(list, q, indices, n, e, escape, 1, format, size, turned, lossless, d);
+            let us = column_at(
+                list,
+                q,
+                indices,
+                n,
+                e,
+                escape,
+                1,
+                format,
+                size,
+                turned,
+                lossless,
+                d,
+            );
             let h = us.next;
             match h {
                 Next::Refused(no, r) => no_levels(no, r),
                 Next::At(r) => {
                     let y = ys.values;
                     let cb = us.values;
-                    third_at(list, r, indices, n, e, escape, format, size, turned, lossless, d, y, cb)
+                    third_at(
+                        list,
+                        r,
+                        indices,
+                        n,
+                        e,
+                        escape,
+                        format,
+                        size,
+                        turned,
+                        lossless,
+                        d,
+                        y,
+                        cb,
+                    )
                 }
             }
         }

@@ -181,7 +181,18 @@ pub fn palette_at(
         Number::Refused(no, q) => refused(no, q),
         Number::Is(reused, q) => {
             let flags = got.flags;
-            fresh_at(list, q, limit, format, luma, chroma, old, count, flags, reused)
+            fresh_at(
+                list,
+                q,
+                limit,
+                format,
+                luma,
+                chroma,
+                old,
+                count,
+                flags,
+                reused,
+            )
         }
     }
 }

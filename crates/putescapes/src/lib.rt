@@ -94,7 +94,19 @@ fn put_levels(
         let x = indices[i];
         let v = escapes[i];
         let l = level_of(v, k);
-        p = put_cell(list, p, x == e, k, format, size, turned, i, lossless, depth, l);
+        p = put_cell(
+            list,
+            p,
+            x == e,
+            k,
+            format,
+            size,
+            turned,
+            i,
+            lossless,
+            depth,
+            l,
+        );
         i += 1;
     }
     p
@@ -122,9 +134,48 @@ pub fn put_escapes(
     if escape {
         let d = chroma_depth(format, chroma);
         let l = luma as u32;
-        let p = put_levels(list, at, indices, escapes, n, e, 0, format, size, turned, lossless, l);
-        let q = put_levels(list, p, indices, escapes, n, e, 1, format, size, turned, lossless, d);
-        return put_levels(list, q, indices, escapes, n, e, 2, format, size, turned, lossless, d);
+        let p = put_levels(
+            list,
+            at,
+            indices,
+            escapes,
+            n,
+            e,
+            0,
+            format,
+            size,
+            turned,
+            lossless,
+            l,
+        );
+        let q = put_levels(
+            list,
+            p,
+            indices,
+            escapes,
+            n,
+            e,
+            1,
+            format,
+            size,
+            turned,
+            lossless,
+            d,
+        );
+        return put_levels(
+            list,
+            q,
+            indices,
+            escapes,
+            n,
+            e,
+            2,
+            format,
+            size,
+            turned,
+            lossless,
+            d,
+        );
     }
     at
 }

@@ -76,7 +76,14 @@ fn levels_of(n: usize, y: [u16; 1024], cb: [u16; 1024], cr: [u16; 1024]) -> [Lev
 }
 
 // The cells of the first `count` runs; all 0 where there are none.
-fn cells_of(size: usize, n: usize, m: u32, turned: bool, runs: [PaletteRun; 1024], count: usize) -> [u8; 1024]
+fn cells_of(
+    size: usize,
+    n: usize,
+    m: u32,
+    turned: bool,
+    runs: [PaletteRun; 1024],
+    count: usize,
+) -> [u8; 1024]
     requires { ⌜ (1 ≤ size) × (n ≤ 1024) × (m ≤ 64) × (count ≤ 1024) × MapOk size n m (record { turned = turned; runs = take count runs }) ⌝ }
     ensures { λ r. ⌜ r ≡ padded 1024 0 (cellsOf size n m (record { turned = turned; runs = take count runs })) ⌝ }
 {
@@ -172,7 +179,20 @@ fn after_map(
     let e = pal.size as u8;
     let esc = pal.escape;
     let t = mp.turned;
-    let lv = levels_at(list, at, cells, n, e, esc, format, size, t, lossless, luma, chroma);
+    let lv = levels_at(
+        list,
+        at,
+        cells,
+        n,
+        e,
+        esc,
+        format,
+        size,
+        t,
+        lossless,
+        luma,
+        chroma,
+    );
     let g = lv.next;
     match g {
         Next::Refused(no, q) => refused(no, q),
@@ -181,7 +201,19 @@ fn after_map(
             let cb = lv.cb;
             let cr = lv.cr;
             let escapes = levels_of(n, y, cb, cr);
-            made(size, format, luma, chroma, lossless, count, pal, mp, cells, escapes, q)
+            made(
+                size,
+                format,
+                luma,
+                chroma,
+                lossless,
+                count,
+                pal,
+                mp,
+                cells,
+                escapes,
+                q,
+            )
         }
     }
 }
@@ -208,7 +240,18 @@ fn after_palette(
     match g {
         Next::Refused(no, q) => refused(no, q),
         Next::At(q) => after_map(
-            list, q, size, format, luma, chroma, lossless, count, pal, mp, n, m,
+            list,
+            q,
+            size,
+            format,
+            luma,
+            chroma,
+            lossless,
+            count,
+            pal,
+            mp,
+            n,
+            m,
         ),
     }
 }
@@ -231,8 +274,6 @@ pub fn read_block(
     let g = pal.next;
     match g {
         Next::Refused(no, q) => refused(no, q),
-        Next::At(q) => after_palette(
-            list, q, size, format, luma, chroma, lossless, count, pal,
-        ),
+        Next::At(q) => after_palette(list, q, size, format, luma, chroma, lossless, count, pal),
     }
 }

@@ -57,14 +57,7 @@ fn less_one(v: u8, f: u8) -> u8
 }
 
 // Whether the index sent is the run's.
-fn sent_right(
-    cells: &[u8; 1024],
-    size: usize,
-    m: u32,
-    scan: usize,
-    prev: bool,
-    sent: u32,
-) -> bool
+fn sent_right(cells: &[u8; 1024], size: usize, m: u32, scan: usize, prev: bool, sent: u32) -> bool
     requires { ⌜ (1 ≤ size) × (scan < 1024) × (m ≤ 1024) ⌝ }
     ensures { λ r. ⌜ r ≡ sentRight size m (now (cells .entry)) scan prev sent ⌝ }
 {

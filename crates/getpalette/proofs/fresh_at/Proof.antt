@@ -72,9 +72,10 @@ with-fresh-requires c κs =
     let a = c .before .before .before .before .before .before .before .before .before .before .before .before .before .before .before .before .before .args in
     let s = c .before .before .before .before .before .before .before .before .before .before .before .before .before .before .before .before .before .pre .4 in
     let h = sym (c .before .before .before .before .before .before .before .before .before .before .before .before .before .before .before .signalled-at .ensures) ∙ ap asNumber (c .before .before .before .before .before .before .before .before .before .before .before .before .before .new .given .1) in
-    let w = chosen (take (a .count) (a .flags)) (take (a .count) (a .old)) in
-    (omega (arith, new-most (a .limit) (a .format) (a .luma) (a .chroma) (take (a .count) (a .old)) (take (a .count) (a .flags)) (a .reused) (a .list .now) (a .at) s _ _ h (c .before .before .before .before .before .before .before .before .before .before .before .before .before .before .before .before .before .pre .0), c .before .before .before .before .before .before .before .before .before .before .before .before .before .before .before .before .before .pre .0, c .before .before .before .before .before .before .before .before .before .before .before .before .before .before .before .before .before .pre .5),
-    rw (c .before .before .before .marked .ensures .0) (padded-drop 64 noColor w (a .reused) (c .before .before .before .marked .ensures .1 ∙ sym s)))
+    let w = chosen (take (a .count) (a .flags)) (take (a .count) (a .old)) in (
+      omega (arith, new-most (a .limit) (a .format) (a .luma) (a .chroma) (take (a .count) (a .old)) (take (a .count) (a .flags)) (a .reused) (a .list .now) (a .at) s _ _ h (c .before .before .before .before .before .before .before .before .before .before .before .before .before .before .before .before .before .pre .0), c .before .before .before .before .before .before .before .before .before .before .before .before .before .before .before .before .before .pre .0, c .before .before .before .before .before .before .before .before .before .before .before .before .before .before .before .before .before .pre .5),
+      rw (c .before .before .before .marked .ensures .0) (padded-drop 64 noColor w (a .reused) (c .before .before .before .marked .ensures .1 ∙ sym s)),
+    )
 
 add-t38 : tie.Need-add-t38
 add-t38 c = search needs

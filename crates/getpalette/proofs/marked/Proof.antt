@@ -71,8 +71,7 @@ loop-again c =
     let x : length (g .t1) ≡ 128 = search needs in
     let y : length (g .t3) ≡ 128 = search needs in
     let t = trues-at (g .t1) (g .count) (b .i) (omega arith) (omega arith) in
-    let o = ap bit (c .before .if1 .taken) in
-    (
+    let o = ap bit (c .before .if1 .taken) in (
       omega arith,
       simp length-set (b .inv .1),
       omega (arith, t, o, b .inv .2),
@@ -93,8 +92,7 @@ loop-again-2 c =
     let x : length (g .t1) ≡ 128 = search needs in
     let y : length (g .t3) ≡ 128 = search needs in
     let t = trues-at (g .t1) (g .count) (b .i) (omega arith) (omega arith) in
-    let o = ap bit (c .if1 .left) in
-    (
+    let o = ap bit (c .if1 .left) in (
       omega arith,
       b .inv .1,
       omega (arith, t, o, b .inv .2),
@@ -107,8 +105,7 @@ returns c =
     let b = c .before .loop in
     let g = c .before .before .args in
     let x : length (g .t1) ≡ 128 = search needs in
-    let y : length (g .t3) ≡ 128 = search needs in
-    (
+    let y : length (g .t3) ≡ 128 = search needs in (
       marked-end (g .t1) (g .t3) (g .count) (omega arith) (omega arith) (b .i) (b .k) (b .out) (omega arith) (omega (arith, b .inv .2)) (b .inv .1) (b .inv .3) (b .inv .4),
       length-chosen (take (g .count) (g .t1)) (take (g .count) (g .t3)) (length-take-le (g .count) (g .t1) (omega arith) ∙ sym (length-take-le (g .count) (g .t3) (omega arith))),
     )

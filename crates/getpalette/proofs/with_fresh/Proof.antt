@@ -64,8 +64,7 @@ loop-again c =
     let g = c .before .before .args in
     let x : length (g .t4) ≡ 64 = search needs in
     let y : length (g .t5) ≡ 64 = search needs in
-    let z : length (g .t6) ≡ 64 = search needs in
-    (
+    let z : length (g .t6) ≡ 64 = search needs in (
       omega arith,
       simp length-set (b .inv .1),
       entries-next (g .t4) (g .t5) (g .t6) (take (g .from) (g .first)) (b .out) (g .from) (b .i) (omega arith) (omega arith) (omega arith) (omega (arith, b .inv .1)) (b .inv .2),

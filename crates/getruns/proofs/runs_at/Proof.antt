@@ -109,8 +109,7 @@ loop-again c =
     let t = one-fits (g .size) (g .n) (g .fin) (b .scan) (b .prev) (g .total - b .used) (c .before .before .before .before .before .before .wide .result) (g .list .now) (b .p) (omega arith) _ _ e in
     let o : length (g .t6) ≡ 1024 = search needs in
     let z = runs-turn (g .n - b .count) (g .n - (b .count + 1)) (g .size) (g .n) (g .fin) (b .scan) (b .prev) (g .list .now) (b .p) (omega arith) (omega arith) (g .t6) (g .total) (b .used) (omega arith) (omega arith) _ _ (rw (c .before .before .before .before .before .before .wide .ensures) at e) in
-    let w : pick (r .above) 0 1 ≤ 1 = one-most (r .above) in
-    (
+    let w : pick (r .above) 0 1 ≤ 1 = one-most (r .above) in (
       omega arith,
       omega (arith, t .inside),
       omega (arith, c .used-after .ensures),
@@ -123,8 +122,7 @@ loop-again c =
 returns-2 : tie.Need-returns-2 Inv-loop μ-loop
 returns-2 c =
     let b = c .before .loop in
-    let g = c .before .before .before .before .args in
-    (
+    let g = c .before .before .before .before .args in (
       sym (prepend-end (take (b .count) (b .runs)) (b .p)) ∙ rw (runs-end (g .n - b .count) (g .size) (g .n) (g .fin) (b .scan) (b .prev) (drop (b .used) (take (g .total) (g .t6))) (g .list .now) (b .p) (omega arith)) at (b .inv .5),
       omega arith,
       blank-end (b .runs) (b .count) (b .inv .4) (omega arith) (b .inv .6),

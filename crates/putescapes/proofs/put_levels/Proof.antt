@@ -54,8 +54,7 @@ loop-again c =
     let h : length (g .t3) ≡ 1024 = search needs in
     let j : length (g .t4) ≡ 1024 = search needs in
     let w = levels-turn (g .lossless) (g .depth) (dueAt (g .format) (g .size) (g .turned) (g .k)) (g .e) (levelOf (g .k)) (g .t3) (g .t4) (g .n) (omega arith) (omega arith) (b .i) (omega arith) in
-    let d = rw (c .before .before .before .before .level-of .ensures .0) at (c .before .before .put-cell .ensures .0) in
-    (
+    let d = rw (c .before .before .before .before .level-of .ensures .0) at (c .before .before .put-cell .ensures .0) in (
       omega arith,
       omega (arith, c .before .before .put-cell .ensures .1),
       c .before .before .put-cell .kept .0 ∙ b .inv .2,

@@ -65,8 +65,7 @@ loop-again c =
     let h : length (g .t4) ≡ 1024 = search needs in
     let r = getD (g .t4) (b .i) noRun in
     let e = C.read (g .t4) (g .count) (b .i) noRun (omega arith) (omega arith) in
-    let t = index-turn (g .m) (g .total) (b .k) (drop (b .i) (take (g .count) (g .t4))) r (drop (b .i + 1) (take (g .count) (g .t4))) (omega arith) e (b .inv .4) in
-    (
+    let t = index-turn (g .m) (g .total) (b .k) (drop (b .i) (take (g .count) (g .t4))) r (drop (b .i + 1) (take (g .count) (g .t4))) (omega arith) e (b .inv .4) in (
       omega arith,
       omega (arith, c .used-after .ensures, one-most (r .above)),
       omega (arith, c .before .before .before .put-index .ensures .1),

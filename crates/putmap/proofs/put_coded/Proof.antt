@@ -29,26 +29,32 @@ put-count-requires : tie.Need-put-count-requires
 put-count-requires c κs = (omega arith, omega (arith, c .before .before .count-index .ensures, first-sent (c .before .before .before .before .args .size) (c .before .before .before .before .args .n) (take (c .before .before .before .before .args .count) (c .before .before .before .before .args .runs)) (omega arith) (omega arith) (c .before .before .before .before .pre .7 .keeps) .1), omega arith)
 
 put-indices-requires : tie.Need-put-indices-requires
-put-indices-requires c κs =
-    (omega arith, omega arith, omega (arith, c .before .before .before .put-count .ensures .1), omega arith,
-    omega (arith, c .before .before .before .before .before .before .count-index .ensures, first-sent (c .before .before .before .before .before .before .before .before .args .size) (c .before .before .before .before .before .before .before .before .args .n) (take (c .before .before .before .before .before .before .before .before .args .count) (c .before .before .before .before .before .before .before .before .args .runs)) (omega arith) (omega arith) (c .before .before .before .before .before .before .before .before .pre .7 .keeps) .0),
-    rw (c .before .before .before .before .before .before .count-index .ensures) (c .before .before .before .before .before .before .before .before .pre .7 .each))
+put-indices-requires c κs = (
+  omega arith,
+  omega arith,
+  omega (arith, c .before .before .before .put-count .ensures .1),
+  omega arith,
+  omega (arith, c .before .before .before .before .before .before .count-index .ensures, first-sent (c .before .before .before .before .before .before .before .before .args .size) (c .before .before .before .before .before .before .before .before .args .n) (take (c .before .before .before .before .before .before .before .before .args .count) (c .before .before .before .before .before .before .before .before .args .runs)) (omega arith) (omega arith) (c .before .before .before .before .before .before .before .before .pre .7 .keeps) .0),
+  rw (c .before .before .before .before .before .before .count-index .ensures) (c .before .before .before .before .before .before .before .before .pre .7 .each),
+)
 
 put-flags-requires : tie.Need-put-flags-requires
 put-flags-requires c κs = omega (arith, c .before .before .before .before .before .before .before .put-count .ensures .1, c .before .before .before .put-indices .ensures .1)
 
 put-runs-requires : tie.Need-put-runs-requires
-put-runs-requires c κs =
-    (omega (arith, c .before .before .before .before .before .before .before .before .before .before .before .put-count .ensures .1, c .before .before .before .before .before .before .before .put-indices .ensures .1, c .before .before .before .put-flags .ensures .1), omega arith, omega arith,
-    record { keeps = c .before .before .before .before .before .before .before .before .before .before .before .before .before .before .before .before .pre .7 .keeps; final = sym (c .before .before .before .before .before .before .before .before .before .before .before .before .before .final-kind .ensures); sum = c .before .before .before .before .before .before .before .before .before .before .before .before .before .before .count-index .ensures })
+put-runs-requires c κs = (
+  omega (arith, c .before .before .before .before .before .before .before .before .before .before .before .put-count .ensures .1, c .before .before .before .before .before .before .before .put-indices .ensures .1, c .before .before .before .put-flags .ensures .1),
+  omega arith,
+  omega arith,
+  record { keeps = c .before .before .before .before .before .before .before .before .before .before .before .before .before .before .before .before .pre .7 .keeps; final = sym (c .before .before .before .before .before .before .before .before .before .before .before .before .before .final-kind .ensures); sum = c .before .before .before .before .before .before .before .before .before .before .before .before .before .before .count-index .ensures },
+)
 
 same-length : tie.Need-same-length
 same-length c = search needs
 
 returns : tie.Need-returns
 returns c =
-    let g = c .before .before .before .before .before .before .before .before .before .before .before .before .before .before .before .before .before .before .before .args in
-    (
+    let g = c .before .before .before .before .before .before .before .before .before .before .before .before .before .before .before .before .before .before .before .args in (
       coded-laid (g .size) (g .n) (g .m) (g .escape) (g .turned) (take (g .count) (g .runs)) (c .before .before .before .before .before .before .before .before .before .before .before .before .before .before .before .before .before .count-index .result) (c .before .before .before .before .before .before .before .before .before .before .before .before .before .before .before .before .final-kind .result) (c .before .before .before .before .before .before .before .before .before .before .before .before .before .before .before .before .before .count-index .ensures) (c .before .before .before .before .before .before .before .before .before .before .before .before .before .before .before .before .final-kind .ensures) (c .before .before .before .before .before .before .before .before .before .before .before .before .before .before .put-count .ensures .0) (c .before .before .before .before .before .before .before .before .before .before .put-indices .ensures .0) (c .before .before .before .before .before .before .put-flags .ensures .0) (c .before .before .put-runs .ensures .0),
       omega (arith, c .before .before .before .before .before .before .before .before .before .before .before .before .before .before .put-count .ensures .1, c .before .before .before .before .before .before .before .before .before .before .put-indices .ensures .1, c .before .before .before .before .before .before .put-flags .ensures .1, c .before .before .put-runs .ensures .1),
     )

@@ -30,11 +30,10 @@ same-length : tie.Need-same-length
 same-length c = search needs
 
 returns : tie.Need-returns
-returns c =
-    (
-      laid-then (rw (c .before .before .before .before .before .before .before .before .before .before .before .before .kind-byte .ensures) at (c .before .before .before .before .before .before .before .before .before .before .before .put-bin .ensures)) (laid-then (rw (c .before .before .before .before .before .before .before .turn-byte .ensures) at (c .before .before .before .before .before .before .put-bin2 .ensures)) (c .before .before .put-marker .ensures .0)),
-      omega (arith, c .before .before .before .before .before .before .before .before .before .before .before .put-bin .ensures .next, c .before .before .before .before .before .before .put-bin2 .ensures .next, c .before .before .put-marker .ensures .1),
-    )
+returns c = (
+  laid-then (rw (c .before .before .before .before .before .before .before .before .before .before .before .before .kind-byte .ensures) at (c .before .before .before .before .before .before .before .before .before .before .before .put-bin .ensures)) (laid-then (rw (c .before .before .before .before .before .before .before .turn-byte .ensures) at (c .before .before .before .before .before .before .put-bin2 .ensures)) (c .before .before .put-marker .ensures .0)),
+  omega (arith, c .before .before .before .before .before .before .before .before .before .before .before .put-bin .ensures .next, c .before .before .before .before .before .before .put-bin2 .ensures .next, c .before .before .put-marker .ensures .1),
+)
 
 pub put-flags-spec : {M : Type 1} → statement M
 put-flags-spec =

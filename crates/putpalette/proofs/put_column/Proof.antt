@@ -50,8 +50,7 @@ loop-again c =
     let g = c .before .before .before .before .before .before .before .before .before .args in
     let h : length (g .t3) ≡ 64 = search needs in
     let w = column-turn (part (g .k)) (g .t3) (g .to) (g .depth) (omega arith) (b .i) (omega arith) in
-    let d = rw (c .before .before .before .part-of .ensures) at (c .before .before .put-bits .ensures) in
-    (
+    let d = rw (c .before .before .before .part-of .ensures) at (c .before .before .put-bits .ensures) in (
       omega arith,
       omega arith,
       omega (arith, c .before .before .put-bits .ensures .next, length-bits (g .depth) (c .before .before .before .part-of .result)),

@@ -24,8 +24,7 @@ same-length c = search needs
 
 returns : tie.Need-returns
 returns c =
-    let g = c .before .before .before .before .before .before .before .before .before .before .before .before .before .before .args in
-    (
+    let g = c .before .before .before .before .before .before .before .before .before .before .before .before .before .before .args in (
       entries-laid (g .limit) (g .format) (g .luma) (g .chroma) (c .before .before .before .before .before .before .before .before .before .before .before .before .chroma-depth .result) (g .to - g .from) (drop (g .from) (take (g .to) (g .palette))) (c .before .before .before .before .before .before .before .before .before .before .before .before .chroma-depth .ensures .0) (c .before .before .before .before .before .before .before .before .before .before .put-column .ensures .0) (c .before .before .before .before .before .before .put-column2 .ensures .0) (c .before .before .put-column3 .ensures .0),
       omega (arith, c .before .before .before .before .before .before .before .before .before .before .put-column .ensures .1, c .before .before .before .before .before .before .put-column2 .ensures .1, c .before .before .put-column3 .ensures .1),
     )

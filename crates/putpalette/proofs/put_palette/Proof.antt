@@ -34,8 +34,7 @@ same-length c = search needs
 returns : tie.Need-returns
 returns c =
     let g = c .before .before .before .before .before .before .before .before .before .before .before .before .before .before .before .before .before .args in
-    let h : length (g .palette) ≡ 64 = search (needs, c .before .before .before .before .before .before .before .before .before .before .before .before .before .before .before .before .before .good .1 .1 .1 .1 .1 .1 .1 .1 .0) in
-    (
+    let h : length (g .palette) ≡ 64 = search (needs, c .before .before .before .before .before .before .before .before .before .before .before .before .before .before .before .before .before .good .1 .1 .1 .1 .1 .1 .1 .1 .0) in (
       palette-laid (g .limit) (g .format) (g .luma) (g .chroma) (take (g .count) (g .flags)) (g .palette) (g .reused) (g .size) (g .escape) (c .before .before .before .before .before .before .before .before .before .before .before .before .before .before .before .before .before .pre .6) (omega arith) (omega arith) (c .before .before .before .before .before .before .before .before .before .before .before .before .before .before .put-reuse .ensures .0) (c .before .before .before .before .before .before .before .before .before .before .put-signalled .ensures .0) (c .before .before .before .before .before .before .put-entries .ensures .0) (c .before .before .put-escape .ensures .0),
       omega (arith, c .before .before .before .before .before .before .before .before .before .before .before .before .before .before .put-reuse .ensures .1, c .before .before .before .before .before .before .before .before .before .before .put-signalled .ensures .1, c .before .before .before .before .before .before .put-entries .ensures .1, c .before .before .put-escape .ensures .1),
     )

@@ -103,8 +103,7 @@ loop-again c =
     let e = C.read (g .t6) (g .count) (b .i) noRun (omega arith) (omega arith) in
     let t = going-turn (g .size) (g .n) (g .fin) (b .scan) (b .prev) (b .left) (drop (b .i) (take (g .count) (g .t6))) r (drop (b .i + 1) (take (g .count) (g .t6))) e (b .inv .3) in
     let f = c .before .before .before .before .before .left-after .ensures in
-    let w = rw (e, t .bins (c .before .before .before .before .before .left-after .result) f) at (b .inv .4) in
-    (
+    let w = rw (e, t .bins (c .before .before .before .before .before .left-after .result) f) at (b .inv .4) in (
       omega arith,
       omega (arith, c .before .before .before .before .before .before .before .before .put-kind .ensures .1, c .before .before .before .put-more .ensures .1),
       c .before .before .before .put-more .kept .0 ∙ c .before .before .before .before .before .before .before .before .put-kind .kept .0 ∙ b .inv .2,

@@ -44,9 +44,20 @@ after-map-requires : tie.Need-after-map-requires
 after-map-requires c κs =
     let a = c .before .before .before .before .before .before .before .args in
     let o : 1 ≤ a .size * a .size = mul-le-mul (c .before .before .before .before .before .before .before .pre .0) (c .before .before .before .before .before .before .before .pre .0) in
-    let f = sym (c .before .before .before .map-at .ensures .0) ∙ ap (λ (x : Next). placed x (mapOf (c .before .before .before .map-at .result))) (c .before .g2 .given .1) in
-    (c .before .before .before .before .before .before .before .pre .0, c .before .before .before .before .before .area .ensures .0, c .before .before .before .before .before .area .ensures .1, c .before .before .before .before .greatest .ensures .0, c .before .before .before .before .greatest .ensures .1, c .before .before .before .before .before .before .before .pre .2, c .before .before .before .before .before .before .before .pre .3, c .before .before .before .before .before .before .before .pre .4, c .before .before .before .map-at .ensures .1, c .before .before .before .map-at .ensures .2,
-    map-code (a .size) (c .before .before .before .before .before .area .result) (c .before .before .before .before .greatest .result) (a .pal .escape) (c .before .before .before .before .before .before .before .pre .0) (omega (arith, c .before .before .before .before .before .area .ensures .0)) (c .before .before .before .before .before .area .ensures .1) .back _ _ _ _ f .1, c .before .before .before .before .before .before .before .pre .5)
+    let f = sym (c .before .before .before .map-at .ensures .0) ∙ ap (λ (x : Next). placed x (mapOf (c .before .before .before .map-at .result))) (c .before .g2 .given .1) in (
+      c .before .before .before .before .before .before .before .pre .0,
+      c .before .before .before .before .before .area .ensures .0,
+      c .before .before .before .before .before .area .ensures .1,
+      c .before .before .before .before .greatest .ensures .0,
+      c .before .before .before .before .greatest .ensures .1,
+      c .before .before .before .before .before .before .before .pre .2,
+      c .before .before .before .before .before .before .before .pre .3,
+      c .before .before .before .before .before .before .before .pre .4,
+      c .before .before .before .map-at .ensures .1,
+      c .before .before .before .map-at .ensures .2,
+      map-code (a .size) (c .before .before .before .before .before .area .result) (c .before .before .before .before .greatest .result) (a .pal .escape) (c .before .before .before .before .before .before .before .pre .0) (omega (arith, c .before .before .before .before .before .area .ensures .0)) (c .before .before .before .before .before .area .ensures .1) .back _ _ _ _ f .1,
+      c .before .before .before .before .before .before .before .pre .5,
+    )
 
 returns : tie.Need-returns
 returns c =

@@ -60,8 +60,7 @@ loop-again c =
     let g = c .before .before .args in
     let x : length (g .t2) ≡ 1024 = search needs in
     let y : length (g .t3) ≡ 1024 = search needs in
-    let z : length (g .t4) ≡ 1024 = search needs in
-    (
+    let z : length (g .t4) ≡ 1024 = search needs in (
       omega arith,
       simp length-set (b .inv .1),
       zip-next (g .t2) (g .t3) (g .t4) (b .out) (b .i) (omega arith) (omega arith) (omega arith) (omega (arith, b .inv .1)) (b .inv .2),

@@ -78,8 +78,7 @@ loop-again c =
     let r = getD (g .t3) (b .i) noRun in
     let e = C.read (g .t3) (g .count) (b .i) noRun (omega arith) (omega arith) in
     let t = replay-turn (g .size) (g .n) (b .scan) (b .prev) (b .cells) (drop (b .i) (take (g .count) (g .t3))) r (drop (b .i + 1) (take (g .count) (g .t3))) (omega arith) (omega arith) e (b .inv .3) (b .inv .4) in
-    let a : c .before .before .before .end-of .result - b .scan ≡ r .more + 1 = omega (arith, c .before .before .before .end-of .ensures) in
-    (
+    let a : c .before .before .before .end-of .result - b .scan ≡ r .more + 1 = omega (arith, c .before .before .before .end-of .ensures) in (
       omega arith,
       omega (arith, c .before .before .before .end-of .ensures, t .inside),
       ap length (c .lay-run .ensures) ∙ lay-length _ _ _ _ _ _ _ ∙ b .inv .2,

@@ -27,9 +27,14 @@ put-head-requires c κs = c .before .before .before .before .before .before .bef
 put-map-requires : tie.Need-put-map-requires
 unfolding maxIndex
 put-map-requires c κs =
-    let f = fit (c .before .before .before .before .before .before .before .before .before .before .before .args .cu) (c .before .before .before .before .before .before .before .before .before .before .before .pre .0) in
-    (omega (arith, c .before .before .before .put-head .ensures .1), f .least, omega (arith, c .before .before .before .before .before .before .before .before .before .area .ensures .0, f .cells), c .before .before .before .before .before .before .before .before .before .area .ensures .1, c .before .before .before .before .before .before .before .before .greatest .ensures .1,
-    rw (c .before .before .before .before .before .before .before .before .before .area .ensures .0) (runs-ready (c .before .before .before .before .before .before .before .before .before .before .before .args .cu) (c .before .before .before .before .before .before .before .before .before .before .before .args .runs) (c .before .before .before .before .before .before .before .before .before .before .before .args .count) (c .before .before .before .before .before .before .before .before .greatest .result) (c .before .before .before .before .before .before .before .before .before .before .before .args .cu .transpose) (c .before .before .before .before .before .before .before .before .greatest .ensures .0) (f .least) (c .before .before .before .before .before .before .before .before .before .before .before .pre .1)))
+    let f = fit (c .before .before .before .before .before .before .before .before .before .before .before .args .cu) (c .before .before .before .before .before .before .before .before .before .before .before .pre .0) in (
+      omega (arith, c .before .before .before .put-head .ensures .1),
+      f .least,
+      omega (arith, c .before .before .before .before .before .before .before .before .before .area .ensures .0, f .cells),
+      c .before .before .before .before .before .before .before .before .before .area .ensures .1,
+      c .before .before .before .before .before .before .before .before .greatest .ensures .1,
+      rw (c .before .before .before .before .before .before .before .before .before .area .ensures .0) (runs-ready (c .before .before .before .before .before .before .before .before .before .before .before .args .cu) (c .before .before .before .before .before .before .before .before .before .before .before .args .runs) (c .before .before .before .before .before .before .before .before .before .before .before .args .count) (c .before .before .before .before .before .before .before .before .greatest .result) (c .before .before .before .before .before .before .before .before .before .before .before .args .cu .transpose) (c .before .before .before .before .before .before .before .before .greatest .ensures .0) (f .least) (c .before .before .before .before .before .before .before .before .before .before .before .pre .1)),
+    )
 
 cast-put-escapes : tie.Need-cast-put-escapes
 cast-put-escapes c = let f = fit (c .before .before .before .before .before .before .before .before .before .before .before .before .before .before .before .before .args .cu) (c .before .before .before .before .before .before .before .before .before .before .before .before .before .before .before .before .pre .0) in omega (arith, f .small, f .entries, c .before .before .before .before .before .before .before .before .before .before .before .before .before .before .area .ensures .1)
