@@ -21,11 +21,11 @@ area-requires c κs = size-most (c .before .before .before .before .before .befo
 
 returns : tie.Need-returns
 unfolding readRefusal
-returns c = rw (sym (c .before .before .before .before .before .before .before .formats-in .ensures) ∙ c .before .before .before .before .before .before .if1 .taken, sym (c .before .before .before .before .before .sizes-in .ensures) ∙ c .before .before .before .before .if2 .taken, sym (c .before .before .before .predictor-in .ensures) ∙ c .before .before .if3 .taken, ← c .before .area .ensures .0, le-leb _ _ (c .if4 .taken))
+returns c = rw (sym (c .before .before .before .before .before .before .before .formats-in .ensures) ∙ c .before .before .before .before .before .before .if1 .taken, sym (c .before .before .before .before .before .sizes-in .ensures) ∙ c .before .before .before .before .if2 .taken, sym (c .before .before .before .predictor-in .ensures) ∙ c .before .before .if3 .taken, ← c .before .area .ensures .0, le-leb (c .before .area .result) (c .before .before .before .before .before .before .before .before .args .room) (omega arith))
 
 returns-2 : tie.Need-returns-2
 unfolding readRefusal
-returns-2 c = rw (sym (c .before .before .before .before .before .before .before .formats-in .ensures) ∙ c .before .before .before .before .before .before .if1 .taken, sym (c .before .before .before .before .before .sizes-in .ensures) ∙ c .before .before .before .before .if2 .taken, sym (c .before .before .before .predictor-in .ensures) ∙ c .before .before .if3 .taken, ← c .before .area .ensures .0, lt-leb _ _ (c .if4 .left))
+returns-2 c = rw (sym (c .before .before .before .before .before .before .before .formats-in .ensures) ∙ c .before .before .before .before .before .before .if1 .taken, sym (c .before .before .before .before .before .sizes-in .ensures) ∙ c .before .before .before .before .if2 .taken, sym (c .before .before .before .predictor-in .ensures) ∙ c .before .before .if3 .taken, ← c .before .area .ensures .0, lt-leb (c .before .area .result) (c .before .before .before .before .before .before .before .before .args .room) (omega arith))
 
 returns-3 : tie.Need-returns-3
 unfolding readRefusal
