@@ -142,7 +142,7 @@ fn measured(random: &mut Random) -> Input {
 }
 
 /// All blocks of size 2 with all palettes of up to two entries of their values, both ways round; many of size 3.
-fn small() -> impl Iterator<Item = Input> {
+pub fn small() -> impl Iterator<Item = Input> {
     let with = |luma: Vec<u16>, size: usize, qp: i32, palette: Vec<u16>, tolerance: u16, transpose: bool| {
         let mut case = grey(size, luma, qp, &[]);
         let block = &mut case.lent.block;

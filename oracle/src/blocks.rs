@@ -56,7 +56,7 @@ pub mod set {
 }
 
 /// All that a call may be given; each takes what it needs.
-#[derive(Clone)]
+#[derive(Clone, Default)]
 pub struct Input {
     pub config: Vec<i32>,
     pub source: Vec<usize>,
@@ -64,6 +64,10 @@ pub struct Input {
     pub transpose: bool,
     pub limit: usize,
     pub tolerance: u64,
+    pub lambda: f32,
+    pub bits_per_run: f32,
+    /// Of the run type's bins, then of each run-prefix context's.
+    pub rates: Vec<f32>,
     pub lent: Lent,
 }
 
@@ -77,6 +81,12 @@ pub struct Lent {
     pub stamp: Vec<u32>,
     pub block: Vec<u16>,
     pub figure: Vec<u64>,
+    /// What smoothing says of its runs.
+    pub changed: bool,
+    /// Four numbers a run, the number of runs, and the bits of their total.
+    pub runs: Vec<u32>,
+    pub count: Vec<usize>,
+    pub total: Vec<u32>,
 }
 
 impl Default for Lent {
@@ -88,6 +98,10 @@ impl Default for Lent {
             stamp: vec![0; SLOTS + 1],
             block: vec![0; BLOCK],
             figure: vec![0],
+            changed: false,
+            runs: vec![],
+            count: vec![],
+            total: vec![],
         }
     }
 }
@@ -311,7 +325,7 @@ impl<O: Op> Case for Call<O> {
     }
 }
 
-/// Inputs with one thing less: a predictor entry, a colour of the planes, a QP, the transposition.
+/// Inputs with one thing less: a predictor entry, a colour of the planes, a QP, the transposition, an index, a rate.
 fn smaller(input: &Input) -> Vec<Input> {
     let mut less = Vec::new();
     let mut with = |change: &dyn Fn(&mut Input)| {
@@ -340,6 +354,13 @@ fn smaller(input: &Input) -> Vec<Input> {
     }
     if input.transpose {
         with(&|one| one.transpose = false);
+    }
+    let cells = input.lent.block.first().map_or(0, |&size| usize::from(size).pow(2)).min(LEVELS - INDICES);
+    for k in (INDICES..INDICES + cells).filter(|&k| input.lent.block.get(k).is_some_and(|&index| index != 0)) {
+        with(&|one| one.lent.block[k] = 0);
+    }
+    for k in (0..input.rates.len()).filter(|&k| input.rates[k] != 1.0) {
+        with(&|one| one.rates[k] = 1.0);
     }
     less
 }
@@ -405,7 +426,8 @@ impl fmt::Debug for Lent {
         }
         write!(f, "\n    predictor{:?}", Runs(&self.predictor))?;
         write!(f, "\n    keys{:?} entry{:?} stamp{:?}", Runs(&self.keys), Runs(&self.entry), Runs(&self.stamp))?;
-        write!(f, "\n    figure{:?}", Runs(&self.figure))
+        write!(f, "\n    figure{:?} changed {}", Runs(&self.figure), self.changed)?;
+        write!(f, "\n    runs{:?} count {:?} total {:x?}", Runs(&self.runs), self.count, self.total)
     }
 }
 
@@ -413,6 +435,7 @@ impl fmt::Debug for Input {
     fn fmt(&self, f: &mut fmt::Formatter) -> fmt::Result {
         write!(f, "config {:?} source {:?}", self.config, self.source)?;
         write!(f, " transpose {} limit {} tolerance {}", self.transpose, self.limit, self.tolerance)?;
+        write!(f, " lambda {:?} bits {:?} rates {:?}", self.lambda, self.bits_per_run, self.rates)?;
         for plane in &self.planes {
             write!(f, "\n    plane{:?}", Runs(plane))?;
         }

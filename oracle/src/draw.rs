@@ -12,15 +12,15 @@ pub fn one_of<T: Copy>(random: &mut Random, from: &[T]) -> T {
 }
 
 /// A number from 0 to `most`.
-fn up_to(random: &mut Random, most: usize) -> usize {
+pub fn up_to(random: &mut Random, most: usize) -> usize {
     random.below(most as u64 + 1) as usize
 }
 
-fn one_in(random: &mut Random, n: u64) -> bool {
+pub fn one_in(random: &mut Random, n: u64) -> bool {
     random.below(n) == 0
 }
 
-fn config(random: &mut Random) -> Vec<i32> {
+pub fn config(random: &mut Random) -> Vec<i32> {
     let format = random.below(4) as i32;
     let mut list = vec![if format == 0 { 1 } else { 3 }, format];
     list.extend([0; 2].map(|_| i32::from(one_of(random, &DEPTHS))));
@@ -66,8 +66,7 @@ fn geometry(random: &mut Random, format: i32) -> Vec<usize> {
 }
 
 /// An input without planes yet.
-fn blank(random: &mut Random) -> Input {
-    let config = config(random);
+fn blank(random: &mut Random, config: Vec<i32>) -> Input {
     let source = geometry(random, config[set::FORMAT]);
     let mut input = Input {
         config,
@@ -75,8 +74,7 @@ fn blank(random: &mut Random) -> Input {
         planes: [vec![], vec![], vec![]],
         transpose: one_in(random, 2),
         limit: MOST_ENTRIES,
-        tolerance: 0,
-        lent: Lent::default(),
+        ..Input::default()
     };
     input.lent.block.iter_mut().for_each(|number| *number = random.below(3) as u16);
     input
@@ -228,7 +226,13 @@ fn counter(random: &mut Random, lent: &mut Lent) {
 
 /// An input of the domain, with a predictor and a counter.
 pub fn input(random: &mut Random) -> Input {
-    let mut input = blank(random);
+    let config = config(random);
+    with_config(random, config)
+}
+
+/// The same with a configuration given.
+pub fn with_config(random: &mut Random, config: Vec<i32>) -> Input {
+    let mut input = blank(random, config);
     let n = input.size() * input.size();
     let count = count(random, n);
     let colors = colors(random, &input, count);

@@ -31,3 +31,20 @@ pub(crate) fn tolerance(cu: &PaletteCu) -> u32 {
 pub(crate) fn palette_sse(src: &SourceBlock<'_>, cfg: &PaletteConfig, cu: &PaletteCu) -> f32 {
     super::super::palette_sse(src, cfg, cu)
 }
+
+/// A rate model of eighteen rates; one that is missing is 0.
+pub(crate) fn model(rates: &[f32]) -> PaletteRateModel {
+    let rate = |k: usize| rates.get(k).copied().unwrap_or(0.0);
+    PaletteRateModel { run_type: [rate(0), rate(1)], run_prefix: std::array::from_fn(|k| [rate(2 + 2 * k), rate(3 + 2 * k)]) }
+}
+
+/// The eighteen rates of CABAC states, as source 000 makes them.
+pub(crate) fn rates(contexts: &PaletteContexts) -> Vec<f32> {
+    let model = PaletteRateModel::new(contexts);
+    model.run_type.into_iter().chain(model.run_prefix.concat()).collect()
+}
+
+/// Copy-above, index sent, further cells, start.
+pub(crate) fn run(run: &PaletteRun) -> [u32; 4] {
+    [run.copy_above.into(), run.raw_index, run.run, run.scan as u32]
+}

@@ -12,11 +12,13 @@ mod codes;
 mod draw;
 mod list;
 mod list_blocks;
+mod plan;
 mod port;
 mod quant;
 mod refusals;
 mod report;
 mod scan;
+mod smooth;
 mod speed;
 mod update;
 
@@ -72,6 +74,8 @@ fn main() -> ExitCode {
     analysis::compare(&mut report);
     assign::compare(&mut report);
     chain::compare(&mut report);
+    smooth::compare(&mut report);
+    plan::compare(&mut report);
     if report.finish() {
         ExitCode::SUCCESS
     } else {

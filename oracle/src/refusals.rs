@@ -33,7 +33,7 @@ pub fn base(format: i32) -> Input {
     let luma = (0..w * h).map(|k| [20, 20, 90, 20, 20, 90, 91, 20][(k + k / w) % 8] + u16::from(k == 27) * 100).collect();
     let chroma = |first: u16| (0..cw * ch).map(|k| first + 500 * u16::from(k % cw > cw / 2)).collect::<Vec<u16>>();
     let planes = if format == 0 { [luma, vec![], vec![]] } else { [luma, chroma(100), chroma(200)] };
-    let mut lent = Lent { stamp: vec![5; 257], ..Lent::default() };
+    let mut lent = Lent { stamp: vec![5; 257], runs: vec![7; 64], count: vec![7], total: vec![7], ..Lent::default() };
     lent.stamp[7] = 4;
     let color = |y: u16| if format == 0 { [y, 0, 0] } else { [y, 100, 200] };
     lent.set_entries(&[color(21), color(255)]);
@@ -44,6 +44,9 @@ pub fn base(format: i32) -> Input {
         transpose: false,
         limit: MOST_ENTRIES,
         tolerance: 4,
+        lambda: 20.0,
+        bits_per_run: 4.0,
+        rates: (0..18).map(|k| 1.0 + k as f32 / 8.0).collect(),
         lent,
     };
     analysed(input).and_then(assigned).expect("source 000 takes the base")

@@ -34,7 +34,7 @@ fn map(colors: usize, format: i32) -> Vec<Input> {
             let mut lent = Lent::default();
             lent.set_entries(&known);
             let source = vec![side, side, cw, ch, k % ACROSS * SIZE, k / ACROSS * SIZE, SIZE];
-            Input { config: vec![3, format, 8, 8, 22, 22, 22, 0], source, planes: planes.clone(), transpose: false, limit: MOST_ENTRIES, tolerance: 0, lent }
+            Input { config: vec![3, format, 8, 8, 22, 22, 22, 0], source, planes: planes.clone(), limit: MOST_ENTRIES, lent, ..Input::default() }
         })
         .collect()
 }
