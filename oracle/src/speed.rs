@@ -3,8 +3,13 @@
 use crate::analysis::Analyze;
 use crate::assign::{Assign, Figure};
 use crate::blocks::{Input, Lent, Op, MOST_ENTRIES};
-use crate::palette::{analyze_palette, assign_indices, harness, ColorIndex, PaletteConfig, PaletteCu, PalettePredictor};
+use crate::cabac::contexts::PaletteContexts;
+use crate::palette::{
+    analyze_palette, assign_indices, harness, plan_runs, smooth_indices, ColorIndex, PaletteConfig, PaletteCu, PalettePredictor, PaletteRateModel, PaletteRun,
+};
+use crate::plan::Plan;
 use crate::report::Random;
+use crate::smooth::Smooth;
 use crate::update::Update;
 use std::hint::black_box;
 use std::time::Instant;
@@ -33,8 +38,18 @@ fn map(colors: usize, format: i32) -> Vec<Input> {
         .map(|k| {
             let mut lent = Lent::default();
             lent.set_entries(&known);
-            let source = vec![side, side, cw, ch, k % ACROSS * SIZE, k / ACROSS * SIZE, SIZE];
-            Input { config: vec![3, format, 8, 8, 22, 22, 22, 0], source, planes: planes.clone(), limit: MOST_ENTRIES, lent, ..Input::default() }
+            (lent.runs, lent.count, lent.total) = (vec![0; 4 * SIZE * SIZE], vec![0], vec![0]);
+            Input {
+                config: vec![3, format, 8, 8, 22, 22, 22, 0],
+                source: vec![side, side, cw, ch, k % ACROSS * SIZE, k / ACROSS * SIZE, SIZE],
+                planes: planes.clone(),
+                limit: MOST_ENTRIES,
+                lambda: 6.0,
+                bits_per_run: 4.0,
+                rates: harness::blocks::rates(&PaletteContexts::init(22)),
+                lent,
+                ..Input::default()
+            }
         })
         .collect()
 }
@@ -45,12 +60,21 @@ struct Buffers {
     predictor: PalettePredictor,
     counter: Box<ColorIndex>,
     cu: Box<PaletteCu>,
+    model: PaletteRateModel,
+    runs: Vec<PaletteRun>,
 }
 
 impl Buffers {
     fn new(input: &Input) -> Buffers {
         let config = input.source_config();
-        Buffers { predictor: input.lent.source_predictor(config.num_comps), counter: input.lent.source_counter(), cu: PaletteCu::new(), config }
+        Buffers {
+            predictor: input.lent.source_predictor(config.num_comps),
+            counter: input.lent.source_counter(),
+            cu: PaletteCu::new(),
+            model: harness::blocks::model(&input.rates),
+            runs: Vec::with_capacity(SIZE * SIZE),
+            config,
+        }
     }
 
     fn analyze(&mut self, input: &Input) {
@@ -70,10 +94,13 @@ fn medians(inputs: &mut [Input], mut source: impl FnMut(&Input, &mut Buffers), p
         buffers.assign(input);
         assert_eq!((Analyze::port(input), Assign::port(input)), (0, 0));
     }
-    // a block at a time, each side first as often as the other
+    let made: Vec<(Box<PaletteCu>, Vec<u16>)> = inputs.iter().zip(&buffers).map(|(input, buffers)| (buffers.cu.clone(), input.lent.block.clone())).collect();
+    // a block at a time, as assignment made it, each side first as often as the other
     let (mut theirs, mut ours) = (Vec::new(), Vec::new());
     for round in 0..2 * ROUNDS {
-        for (input, buffers) in inputs.iter_mut().zip(&mut buffers) {
+        for ((input, buffers), (cu, block)) in inputs.iter_mut().zip(&mut buffers).zip(&made) {
+            buffers.cu.clone_from(cu);
+            input.lent.block.clone_from(block);
             if round % 2 == 0 {
                 theirs.push(timed(|| source(input, buffers)));
             }
@@ -108,6 +135,14 @@ fn update(_: &Input, b: &mut Buffers) {
     b.predictor.update(b.cu.palette_entries(), b.cu.reuse_flags(), MOST_ENTRIES);
 }
 
+fn smooth(input: &Input, b: &mut Buffers) {
+    black_box(smooth_indices(&input.source_block(), &b.config, input.lambda, input.bits_per_run, &mut b.cu));
+}
+
+fn plan(_: &Input, b: &mut Buffers) {
+    black_box(plan_runs(&b.cu, &b.model, &mut b.runs));
+}
+
 fn line(what: &str, (theirs, ours): (f64, f64)) {
     println!("  {what:24} source 000 {theirs:7.2} µs, port {ours:7.2} µs, ratio {:.2}", ours / theirs);
 }
@@ -130,5 +165,7 @@ pub fn measure() {
         line("assignment", medians(&mut inputs, |input, b| b.assign(input), Assign::port));
         line("error figure", medians(&mut inputs, figure, Figure::port));
         line("update", medians(&mut inputs, update, Update::port));
+        line("smoothing", medians(&mut inputs, smooth, Smooth::port));
+        line("planning", medians(&mut inputs, plan, Plan::port));
     }
 }
