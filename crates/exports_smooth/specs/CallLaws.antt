@@ -6,7 +6,7 @@ use borrow.Author.Tests.{ne-eqb}
 use lib.Seq.{sets}
 use Rattle.h265.specs.Strings.{bit}
 use Rattle.flat.specs.Flat.{flatBlock}
-use Rattle.smoothing.specs.declared.Smoothed.{Smoothed}
+use Rattle.smoothblock.specs.declared.Smoothed.{Smoothed}
 use Rattle.exports_smooth.specs.Calls.{smoothLaid}
 
 module _ (done : Smoothed) (list : List ℕ) (r : ℕ) where

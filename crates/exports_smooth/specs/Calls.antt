@@ -8,7 +8,7 @@ use lib.Seq.{sets}
 use Rattle.base.specs.Pick.{pick}
 use Rattle.h265.specs.Strings.{bit}
 use Rattle.flat.specs.Flat.{blockOf, configOf, sourceOf, flatBlock}
-use Rattle.smoothing.specs.declared.Smoothed.{Smoothed}
+use Rattle.smoothblock.specs.declared.Smoothed.{Smoothed}
 use Rattle.smoothing.specs.Smoothing.{smoothOf}
 
 -- the refusal's number twice, 1 more where a run was moved; the block, on a refusal as it was
