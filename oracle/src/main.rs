@@ -15,6 +15,7 @@ mod list_blocks;
 mod plan;
 mod port;
 mod quant;
+mod recon;
 mod refusals;
 mod report;
 mod scan;
@@ -76,6 +77,7 @@ fn main() -> ExitCode {
     chain::compare(&mut report);
     smooth::compare(&mut report);
     plan::compare(&mut report);
+    recon::compare(&mut report);
     if report.finish() {
         ExitCode::SUCCESS
     } else {
