@@ -15,13 +15,17 @@ mod list_blocks;
 mod plan;
 mod port;
 mod quant;
+mod read;
 mod recon;
 mod refusals;
 mod report;
+mod runs;
 mod scan;
+mod second;
 mod smooth;
 mod speed;
 mod update;
+mod write;
 
 use report::Report;
 use std::path::Path;
@@ -78,6 +82,8 @@ fn main() -> ExitCode {
     smooth::compare(&mut report);
     plan::compare(&mut report);
     recon::compare(&mut report);
+    write::compare(&mut report);
+    read::compare(&mut report);
     if report.finish() {
         ExitCode::SUCCESS
     } else {
