@@ -1,0 +1,7 @@
+pub mod Demand
+pub mod Suit
+pub mod Levels
+pub mod Written
+pub mod Covers
+pub mod Trip
+pub mod Made
