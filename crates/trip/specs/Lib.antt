@@ -4,4 +4,5 @@ pub mod Levels
 pub mod Written
 pub mod Covers
 pub mod Trip
+pub mod Step
 pub mod Made
