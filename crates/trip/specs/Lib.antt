@@ -6,3 +6,4 @@ pub mod Covers
 pub mod Trip
 pub mod Step
 pub mod Made
+pub mod Figures
