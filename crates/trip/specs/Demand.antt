@@ -79,36 +79,41 @@ transposeSent cu = pick (ltb 0 (maxIndex cu)) (cu .transpose) false
 unfoldable pub runsSent : PaletteCu → List Run → List Run
 runsSent cu rs = pick (ltb 0 (maxIndex cu)) rs []
 
+-- the block x is what is read of a block
+pub record Same (cu x : PaletteCu) : Type 0 where
+  -- the palette
+  pub entries : x .«palette_size» ≡ cu .«palette_size»
+  pub palette : take (cu .«palette_size») (x .palette) ≡ take (cu .«palette_size») (cu .palette)
+  pub signalled : x .«num_signaled» ≡ cu .«num_signaled»
+  pub escape : x .«escape_present» ≡ cu .«escape_present»
+  -- the flags
+  pub predictors : x .«pred_size» ≡ cu .«pred_size»
+  pub flags : take (cu .«pred_size») (x .reused) ≡ take (cu .«pred_size») (cu .reused)
+  -- the index at every cell
+  pub indices : (i : ℕ) → i < cu .size * cu .size → getD (x .indices) i 0 ≡ getD (cu .indices) i 0
+  -- the escape levels sent
+  pub levels : (i : ℕ) → i < cu .size * cu .size → getD (x .escapes) i noLevels ≡ levelsSent cu i
+  -- transpose if sent
+  pub transpose : x .transpose ≡ transposeSent cu
+  -- what the call lends: size, format, depths, lossless flag
+  pub size : x .size ≡ cu .size
+  pub format : x .«chroma_idc» ≡ cu .«chroma_idc»
+  pub luma : x .«bd_luma» ≡ cu .«bd_luma»
+  pub chroma : x .«bd_chroma» ≡ cu .«bd_chroma»
+  pub lossless : x .lossless ≡ cu .lossless
+  -- and what is not sent at all is 0
+  pub tolerance : x .tolerance ≡ 0
+  pub figure : x .sse ≡ 0
+
 -- the reader's answer r on the bins, so many of them, of a block and its runs
 pub record Back (cu : PaletteCu) (rs : List Run) (bins : ℕ) (r : BlockRead) : Type 0 where
   pub accepted : r .refusal ≡ 0
-  -- the palette
-  pub entries : r .cu .«palette_size» ≡ cu .«palette_size»
-  pub palette : take (cu .«palette_size») (r .cu .palette) ≡ take (cu .«palette_size») (cu .palette)
-  pub signalled : r .cu .«num_signaled» ≡ cu .«num_signaled»
-  pub escape : r .cu .«escape_present» ≡ cu .«escape_present»
-  -- the flags
-  pub predictors : r .cu .«pred_size» ≡ cu .«pred_size»
-  pub flags : take (cu .«pred_size») (r .cu .reused) ≡ take (cu .«pred_size») (cu .reused)
-  -- the index at every cell
-  pub indices : (i : ℕ) → i < cu .size * cu .size → getD (r .cu .indices) i 0 ≡ getD (cu .indices) i 0
-  -- the escape levels sent
-  pub levels : (i : ℕ) → i < cu .size * cu .size → getD (r .cu .escapes) i noLevels ≡ levelsSent cu i
-  -- transpose if sent
-  pub transpose : r .cu .transpose ≡ transposeSent cu
-  -- the runs
+  -- the block
+  pub block : Same cu (r .cu)
+  -- its runs
   pub runs : take (r .count) (r .runs) ≡ runsSent cu rs
   -- exactly those bins used
   pub used : r .used ≡ bins
-  -- what the call lends is the block's: size, format, depths, lossless flag
-  pub size : r .cu .size ≡ cu .size
-  pub format : r .cu .«chroma_idc» ≡ cu .«chroma_idc»
-  pub luma : r .cu .«bd_luma» ≡ cu .«bd_luma»
-  pub chroma : r .cu .«bd_chroma» ≡ cu .«bd_chroma»
-  pub lossless : r .cu .lossless ≡ cu .lossless
-  -- and what is not sent at all is 0
-  pub tolerance : r .cu .tolerance ≡ 0
-  pub figure : r .cu .sse ≡ 0
 
 -- ---- writing and reading: runs are `count` of a list, `list` is the bin list lent to the writer, `space` the length of the run list lent to the reader
 

@@ -91,28 +91,30 @@ module _ (cu : PaletteCu) (p : PalettePredictor) (a : Arrays p cu) (ready : Read
     unfolding answerOf cuRead readBack transposeSent runsSent
     told = record {
       accepted = refl;
-      entries = colours-are cu p a ready;
-      palette = padded-take 64 noColor (take (cu .«palette_size») (cu .palette)) (cu .«palette_size») (colours-are cu p a ready);
-      signalled = refl;
-      escape = refl;
-      predictors = flags-are cu p a ready;
-      flags = padded-take 128 false (take (cu .«pred_size») (cu .reused)) (cu .«pred_size») (flags-are cu p a ready);
-      indices = λ i m.
-          padded-read 1024 0 0 (take (cu .size * cu .size) (cu .indices)) i (rw (cells-are cu p a ready) m)
-          ∙ getD-take (cu .size * cu .size) (cu .indices) i 0 m;
-      levels = levels-back cu p a ready rs;
-      transpose = ap (λ (m : ℕ). pick (ltb 0 m) (cu .transpose) false) (top-is cu p a ready);
+      block = record {
+        entries = colours-are cu p a ready;
+        palette = padded-take 64 noColor (take (cu .«palette_size») (cu .palette)) (cu .«palette_size») (colours-are cu p a ready);
+        signalled = refl;
+        escape = refl;
+        predictors = flags-are cu p a ready;
+        flags = padded-take 128 false (take (cu .«pred_size») (cu .reused)) (cu .«pred_size») (flags-are cu p a ready);
+        indices = λ i m.
+            padded-read 1024 0 0 (take (cu .size * cu .size) (cu .indices)) i (rw (cells-are cu p a ready) m)
+            ∙ getD-take (cu .size * cu .size) (cu .indices) i 0 m;
+        levels = levels-back cu p a ready rs;
+        transpose = ap (λ (m : ℕ). pick (ltb 0 m) (cu .transpose) false) (top-is cu p a ready);
+        size = refl;
+        format = refl;
+        luma = refl;
+        chroma = refl;
+        lossless = refl;
+        tolerance = refl;
+        figure = refl;
+      };
       runs =
           padded-take 1024 noRun (pick (ltb 0 (topIndex (blockOf cu))) rs []) (length (pick (ltb 0 (topIndex (blockOf cu))) rs [])) refl
           ∙ ap (λ (m : ℕ). pick (ltb 0 m) rs []) (top-is cu p a ready);
       used = refl;
-      size = refl;
-      format = refl;
-      luma = refl;
-      chroma = refl;
-      lossless = refl;
-      tolerance = refl;
-      figure = refl;
     }
 
     back : (rest : List ℕ) → Back cu rs (length (binsOf cu rs)) (answer (binsOf cu rs ++ rest))
