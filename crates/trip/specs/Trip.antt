@@ -33,14 +33,7 @@ use Rattle.trip.specs.Written.{write-read}
 
 -- ---- the plan's runs
 
-module _ (cu : PaletteCu) (m : RateModel) (room : ℕ) (h : holds 64 cu ≡ true) (rates : ratesIn m ≡ true) (fit : length (runsFor cu m) ≤ room) where
-  size-in : blockSizeIn cu ≡ true
-  unfolding holds
-  size-in = both (blockSizeIn cu) _ h .0
-
-  plan-is : planOf cu m room ≡ planWith (answerFor cu m) (runsFor cu m)
-  plan-is = sym (block-is cu m room size-in rates h) ∙ rw (le-leb (length (runsFor cu m)) room fit)
-
+module _ (cu : PaletteCu) (m : RateModel) (h : holds 64 cu ≡ true) (rates : ratesIn m ≡ true) where
   runs-some : (maxIndex cu ≡ 0 → ⊥) → runsFor cu m ≡ P.runs cu m
   unfolding runsFor
   runs-some d = rw (ne-eqb (maxIndex cu) 0 d)
@@ -49,7 +42,8 @@ module _ (cu : PaletteCu) (m : RateModel) (room : ℕ) (h : holds 64 cu ≡ true
   unfolding runsFor
   runs-none e = rw e
 
-  few : length (runsFor cu m) ≤ 1024
+  -- no more than an array takes
+  pub few : length (runsFor cu m) ≤ 1024
   few =
       either (eqb (maxIndex cu) 0)
       (λ t. rw (runs-none (eqb-true _ _ t)) (omega arith))
@@ -59,31 +53,40 @@ module _ (cu : PaletteCu) (m : RateModel) (room : ℕ) (h : holds 64 cu ≡ true
       let q : cu .size * cu .size ≤ 32 * 32 = mul-le-mul (w .small) (w .small) in
       rw (runs-some d) (omega (arith, plan-count cu m h rates (omega (arith, d)))))
 
+  -- they keep the rules, in any list that starts with them
+  pub runs-hold : (runs : List Run) (count : ℕ) → take count runs ≡ runsFor cu m → count ≤ 1024 → runsHold cu runs count ≡ true
+  runs-hold runs count e l =
+      either (eqb (maxIndex cu) 0)
+      (λ t. sym (runs-ignored cu runs count (eqb-true _ _ t)))
+      (λ t.
+      let d = eqb-false (maxIndex cu) 0 t in
+      let o : 0 < maxIndex cu = omega (arith, d) in
+      sym (runs-tested cu runs count true o l
+      (sym (rw (e, runs-some d) (rules-replays (cu .size) (cu .size * cu .size) (maxIndex cu) (take (cu .size * cu .size) (cu .indices)) 0 false (P.runs cu m) (plan-rules cu m h rates o))))))
+
+  -- and cover the scan
+  pub runs-cover : 0 < maxIndex cu → Covers cu (runsFor cu m)
+  runs-cover o = rw (runs-some (λ e. omega arith)) (covers cu (P.runs cu m) (plan-keeps cu m h rates o) (plan-alphabets cu m h rates o))
+
   answer-count : countOf (answerFor cu m) ≡ length (runsFor cu m)
   unfolding countOf answerFor runsFor
   answer-count = either (eqb (maxIndex cu) 0) (λ t. rw t) (λ t. rw t)
 
-  count-is : countOf (planOf cu m room .answer) ≡ length (runsFor cu m)
-  count-is = ap (λ (x : Plan). countOf (x .answer)) plan-is ∙ answer-count
+  -- ---- what plan_runs answers where there is room for them
 
-  pub runs-are : take (countOf (planOf cu m room .answer)) (planOf cu m room .runs) ≡ runsFor cu m
-  runs-are = ap (λ (k : ℕ). take k (planOf cu m room .runs)) count-is ∙ ap (λ (x : Plan). take (length (runsFor cu m)) (x .runs)) plan-is ∙ front-runs (runsFor cu m) few
+  module _ (room : ℕ) (fit : length (runsFor cu m) ≤ room) where
+    size-in : blockSizeIn cu ≡ true
+    unfolding holds
+    size-in = both (blockSizeIn cu) _ h .0
 
-  -- they keep the rules
-  pub runs-hold : runsHold cu (planOf cu m room .runs) (countOf (planOf cu m room .answer)) ≡ true
-  runs-hold =
-      either (eqb (maxIndex cu) 0)
-      (λ t. sym (runs-ignored cu (planOf cu m room .runs) (countOf (planOf cu m room .answer)) (eqb-true _ _ t)))
-      (λ t.
-      let d = eqb-false (maxIndex cu) 0 t in
-      let o : 0 < maxIndex cu = omega (arith, d) in
-      sym (runs-tested cu (planOf cu m room .runs) (countOf (planOf cu m room .answer)) true o (rw count-is few)
-      (sym (rw (runs-are, runs-some d) (rules-replays (cu .size) (cu .size * cu .size) (maxIndex cu) (take (cu .size * cu .size) (cu .indices)) 0 false (P.runs cu m) (plan-rules cu m h rates o))))))
+    pub plan-is : planOf cu m room ≡ planWith (answerFor cu m) (runsFor cu m)
+    plan-is = sym (block-is cu m room size-in rates h) ∙ rw (le-leb (length (runsFor cu m)) room fit)
 
-  planned-cover : 0 < maxIndex cu → Covers cu (take (countOf (planOf cu m room .answer)) (planOf cu m room .runs))
-  planned-cover o =
-      let d : maxIndex cu ≡ 0 → ⊥ = λ e. omega arith in
-      rw (runs-are, runs-some d) (covers cu (P.runs cu m) (plan-keeps cu m h rates o) (plan-alphabets cu m h rates o))
+    pub count-is : countOf (planOf cu m room .answer) ≡ length (runsFor cu m)
+    count-is = ap (λ (x : Plan). countOf (x .answer)) plan-is ∙ answer-count
+
+    pub runs-are : take (countOf (planOf cu m room .answer)) (planOf cu m room .runs) ≡ runsFor cu m
+    runs-are = ap (λ (k : ℕ). take k (planOf cu m room .runs)) count-is ∙ ap (λ (x : Plan). take (length (runsFor cu m)) (x .runs)) plan-is ∙ front-runs (runsFor cu m) few
 
 -- THE ROUND TRIP. For a block that holds together, with one flag for each entry of a valid predictor, whose palette starts with the colours its flags mark in the predictor, in order (`Ready`),
 -- rates from 0 to 64, and room in the lists: for the planned runs, for the block's bins, and for n runs at the reader
@@ -93,9 +96,10 @@ pub round-trip : (cu : PaletteCu) (p : PalettePredictor) → Arrays p cu → Rea
     → RoundTrip cu p m room list space rest
 round-trip cu p a ready m room list space rest rates fit wide far =
     let h = ready .whole in
-    let e = runs-are cu m room h rates fit in
+    let e = runs-are cu m h rates room fit in
+    let k = runs-hold cu m h rates (planOf cu m room .runs) (countOf (planOf cu m room .answer)) e (rw (count-is cu m h rates room fit) (few cu m h rates)) in
     record {
-      answered = ap (λ (x : Plan). x .answer) (plan-is cu m room h rates fit);
-      covers = planned-cover cu m room h rates fit;
-      trip = write-read cu p (planOf cu m room .runs) (countOf (planOf cu m room .answer)) list space rest a ready (runs-hold cu m room h rates fit) (rw e wide) far;
+      answered = ap (λ (x : Plan). x .answer) (plan-is cu m h rates room fit);
+      covers = λ o. rw e (runs-cover cu m h rates o);
+      trip = write-read cu p (planOf cu m room .runs) (countOf (planOf cu m room .answer)) list space rest a ready k (rw e wide) far;
     }
