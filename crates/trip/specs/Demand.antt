@@ -14,8 +14,7 @@ use Rattle.model.specs.declared.PaletteCu.{PaletteCu}
 use Rattle.model.specs.declared.PalettePredictor.{PalettePredictor}
 use Rattle.plan.specs.Answer.{answerFor, planOf}
 use Rattle.plan.specs.declared.Plan.{Plan}
-use Rattle.plan.specs.declared.Planned.{Planned}
-use Rattle.plan.specs.declared.Planned.the-variants.{Nothing, Runs, Refused}
+use Rattle.planlist.specs.After.{countOf}
 use Rattle.rates.specs.declared.RateModel.{RateModel}
 use Rattle.read.specs.Reading.{readOf}
 use Rattle.readblock.specs.declared.BlockRead.{BlockRead}
@@ -27,12 +26,6 @@ use Rattle.write.specs.Write.{binsOf, writeOf, listAfter}
 use Rattle.write.specs.declared.Written.{Written}
 
 -- ---- a plan's runs
-
--- how many there are: none where there is nothing to code, or the planner refuses
-unfoldable pub countOf : Planned → ℕ
-countOf Nothing = 0
-countOf (Runs count total) = count
-countOf (Refused number) = 0
 
 -- how many runs of a list hold place i of the scan
 unfoldable pub holding : ℕ → List Run → ℕ

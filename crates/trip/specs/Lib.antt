@@ -4,6 +4,7 @@ pub mod Levels
 pub mod Written
 pub mod Covers
 pub mod Trip
+pub mod Lent
 pub mod Step
 pub mod Made
 pub mod Figures

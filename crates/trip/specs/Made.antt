@@ -12,6 +12,7 @@ use Rattle.model.specs.Domain.{predictorIn}
 use Rattle.model.specs.declared.PaletteConfig.{PaletteConfig}
 use Rattle.model.specs.declared.PaletteCu.{PaletteCu}
 use Rattle.model.specs.declared.PalettePredictor.{PalettePredictor}
+use Rattle.model.specs.declared.PaletteRun.{PaletteRun}
 use Rattle.model.specs.declared.SourceBlock.{SourceBlock}
 use Rattle.colors.specs.declared.ColorIndex.{ColorIndex}
 use Rattle.analysis.specs.Analyze.{analyzeOf, analyzeWithOf}
@@ -25,17 +26,20 @@ use Rattle.smoothing.specs.Smoothing.{smoothOf}
 use Rattle.write.specs.Write.{binsOf}
 use Rattle.eyes.specs.Ready.{Ready, Arrays, Seen, ready, ready-with}
 use Rattle.trip.specs.Demand.{RoundTrip}
+use Rattle.trip.specs.Lent.{LentTrip, lent-trip}
 use Rattle.trip.specs.Trip.{round-trip}
 
--- the round trip of a block, for any rates from 0 to 64 and room in the lists
-abbrev pub Trips : PalettePredictor → PaletteCu → Type 0
-Trips p cu =
-    (m : RateModel) (room : ℕ) (list : List ℕ) (space : ℕ) (rest : List ℕ)
-    → ratesIn m ≡ true → length (runsFor cu m) ≤ room → length (binsOf cu (runsFor cu m)) ≤ length list → cu .size * cu .size ≤ space
-    → RoundTrip cu p m room list space rest
+-- the round trip of a block, for any rates from 0 to 64 and room in the lists, by value and through lent lists
+pub record Trips (p : PalettePredictor) (cu : PaletteCu) : Type 0 where
+  pub lent : (m : RateModel) (list : List PaletteRun) (bins : List ℕ) (other : List PaletteRun) (rest : List ℕ)
+      → ratesIn m ≡ true → length (runsFor cu m) ≤ length list → length (binsOf cu (runsFor cu m)) ≤ length bins → cu .size * cu .size ≤ length other
+      → LentTrip cu p m list bins other rest
+  pub by-value : (m : RateModel) (room : ℕ) (list : List ℕ) (space : ℕ) (rest : List ℕ)
+      → ratesIn m ≡ true → length (runsFor cu m) ≤ room → length (binsOf cu (runsFor cu m)) ≤ length list → cu .size * cu .size ≤ space
+      → RoundTrip cu p m room list space rest
 
 trips : (p : PalettePredictor) (cu : PaletteCu) → Seen p cu → Trips p cu
-trips p cu s = round-trip cu p (s .arrays) (s .ready)
+trips p cu s = record { lent = λ m list bins other rest. lent-trip cu p m list bins other rest (s .arrays) (s .ready); by-value = round-trip cu p (s .arrays) (s .ready) }
 
 -- ---- smoothing keeps what the round trip asks for
 

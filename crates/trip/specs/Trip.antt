@@ -17,6 +17,7 @@ use Rattle.model.specs.declared.PalettePredictor.{PalettePredictor}
 use Rattle.plan.specs.Answer.{runsFor, answerFor, planWith, planOf}
 use Rattle.plan.specs.AnswerLaws.{block-is}
 use Rattle.plan.specs.declared.Plan.{Plan}
+use Rattle.planlist.specs.After.{countOf}
 use Rattle.planned.specs.Front.{front-runs}
 use Rattle.planned.specs.Planning.{plan-rules, plan-keeps, plan-alphabets, plan-count}
 use Rattle.planned.specs.Planning as P
@@ -27,7 +28,7 @@ use Rattle.syntax.specs.Test.{rules-replays}
 use Rattle.write.specs.Laws.{runs-ignored, runs-tested}
 use Rattle.write.specs.Write.{binsOf, runsHold}
 use Rattle.eyes.specs.Ready.{Ready, Arrays}
-use Rattle.trip.specs.Demand.{countOf, Covers, RoundTrip}
+use Rattle.trip.specs.Demand.{Covers, RoundTrip}
 use Rattle.trip.specs.Covers.{covers}
 use Rattle.trip.specs.Written.{write-read}
 
