@@ -1,14 +1,14 @@
 -- What the layout's test leaves, and that the array holds the entries.
 use mathlib.Core.Path.{_≡_, refl, ap, sym, _∙_}
 use mathlib.Core.Bool.{true}
-use mathlib.Core.List.{List, [], _∷_}
+use mathlib.Core.List.{List}
 use Prim.Native.Nat.{ℕ, zero, suc, _+_, _*_, _≤_, _<_}
 use native.Mathlib.Omega.{arith}
 use lib.Dec.{leb, eqb}
 use lib.ListN.{length, getD, replicate, length-replicate}
-use borrow.Author.Tests.{leb-true, eqb-true}
-use Rattle.base.specs.Cells.{laid, laid-in, laid-length}
-use Rattle.base.specs.Tests.{every, both}
+use borrow.Author.Tests.{eqb-true}
+use Rattle.base.specs.Cells.{laid-in, laid-length}
+use Rattle.base.specs.Tests.{both}
 use Rattle.model.specs.Domain.{noColor}
 use Rattle.layout.specs.Layout.{losslessOf, countOf, entriesFrom, binCountOf, binsFrom, laidOut, entryAt, entriesAt, predictorOf, arrayOf}
 

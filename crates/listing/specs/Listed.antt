@@ -1,6 +1,6 @@
 -- What a listing says of the bins: where a block is listed, its bins are those that the writer lays for it, and its lines cover the scan.
-use mathlib.Core.Path.{_≡_, refl, ap, sym, _∙_}
-use mathlib.Core.Bool.{Bool, true, false}
+use mathlib.Core.Path.{_≡_, ap, sym}
+use mathlib.Core.Bool.{true, false}
 use mathlib.Core.List.{List, [], _++_}
 use Prim.Native.Nat.{ℕ, _+_, _*_, _-_, _<_}
 use native.Mathlib.Omega.{arith}
@@ -9,7 +9,6 @@ use lib.ListN.{length, take, drop, length-append}
 use lib.Seq.{take-at}
 use Rattle.base.specs.Answer.{Value}
 use Rattle.h265.specs.Reuse.{trues}
-use Rattle.h265.specs.Strings.{bit}
 use Rattle.syntax.specs.Block.{Call, Map, Told, colours, chosen, paletteOf, blockBins}
 use Rattle.syntax.specs.BlockLaws.{ToldOk, length-chosen, block-code}
 use Rattle.syntax.specs.Runs.{Keeps}

@@ -1,9 +1,9 @@
 -- What the reader's answer does not depend on, numbers too large for a byte and a predictor's slots past its size; and what is so where it takes a block.
 use mathlib.Core.Path.{_≡_, refl, ap, sym, _∙_}
 use mathlib.Core.Bool.{Bool, true, false}
-use mathlib.Core.List.{List, [], _∷_}
+use mathlib.Core.List.{List}
 use mathlib.Core.Logic.{⊎-elim}
-use Prim.Native.Nat.{ℕ, _+_, _≤_, _<_, min}
+use Prim.Native.Nat.{ℕ, _≤_, _<_, min}
 use native.Mathlib.Nat.{le-trans, min-eq-left, min-eq-right, min-le-left}
 use native.Mathlib.Omega.{arith}
 use lib.Dec.{leb, eqb}
@@ -12,10 +12,9 @@ use lib.Seq.{ext-getD, getD-take, length-take-le}
 use borrow.Author.Tests.{leb-true, lt-leb, eqb-true, ne-eqb}
 use Rattle.base.specs.Answer.{Answer, Value, Refused, refused-not}
 use Rattle.base.specs.Pick.{pick, either, lt-or-le}
-use Rattle.base.specs.Tests.{every, any, both, up-to-same}
+use Rattle.base.specs.Tests.{both, up-to-same}
 use Rattle.model.specs.ConfigLaws.{depth-bounds}
 use Rattle.model.specs.Domain.{depthIn, predictorIn, colorIn, noColor}
-use Rattle.model.specs.declared.Color.{Color}
 use Rattle.model.specs.declared.PalettePredictor.{PalettePredictor}
 use Rattle.syntax.specs.Block.{Told, readBlock}
 use Rattle.syntax.specs.PaletteLaws.{CallOk}
