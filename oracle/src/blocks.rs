@@ -87,6 +87,10 @@ pub struct Lent {
     pub runs: Vec<u32>,
     pub count: Vec<usize>,
     pub total: Vec<u32>,
+    /// A byte a bin, the number of bins, and where a refusal stands.
+    pub bins: Vec<u8>,
+    pub used: Vec<usize>,
+    pub place: Vec<usize>,
 }
 
 impl Default for Lent {
@@ -102,6 +106,9 @@ impl Default for Lent {
             runs: vec![],
             count: vec![],
             total: vec![],
+            bins: vec![],
+            used: vec![],
+            place: vec![],
         }
     }
 }
@@ -325,7 +332,7 @@ impl<O: Op> Case for Call<O> {
     }
 }
 
-/// Inputs with one thing less: a predictor entry, a colour of the planes, a QP, the transposition, an index, a rate.
+/// Inputs with one thing less: a predictor entry, a colour of the planes, a QP, the transposition, an index, a rate, a bin.
 fn smaller(input: &Input) -> Vec<Input> {
     let mut less = Vec::new();
     let mut with = |change: &dyn Fn(&mut Input)| {
@@ -361,6 +368,9 @@ fn smaller(input: &Input) -> Vec<Input> {
     }
     for k in (0..input.rates.len()).filter(|&k| input.rates[k] != 1.0) {
         with(&|one| one.rates[k] = 1.0);
+    }
+    for k in (0..input.lent.bins.len()).rev() {
+        with(&|one| one.lent.bins.drain(k..=k).for_each(|_| ()));
     }
     less
 }
@@ -427,7 +437,8 @@ impl fmt::Debug for Lent {
         write!(f, "\n    predictor{:?}", Runs(&self.predictor))?;
         write!(f, "\n    keys{:?} entry{:?} stamp{:?}", Runs(&self.keys), Runs(&self.entry), Runs(&self.stamp))?;
         write!(f, "\n    figure{:?} changed {}", Runs(&self.figure), self.changed)?;
-        write!(f, "\n    runs{:?} count {:?} total {:x?}", Runs(&self.runs), self.count, self.total)
+        write!(f, "\n    runs{:?} count {:?} total {:x?}", Runs(&self.runs), self.count, self.total)?;
+        write!(f, "\n    bins{:?} used {:?} place {:?}", Runs(&self.bins), self.used, self.place)
     }
 }
 

@@ -48,3 +48,8 @@ pub(crate) fn rates(contexts: &PaletteContexts) -> Vec<f32> {
 pub(crate) fn run(run: &PaletteRun) -> [u32; 4] {
     [run.copy_above.into(), run.raw_index, run.run, run.scan as u32]
 }
+
+/// The runs that numbers are, four to each.
+pub(crate) fn runs(numbers: &[[u32; 4]]) -> Vec<PaletteRun> {
+    numbers.iter().map(|&[above, raw_index, run, scan]| PaletteRun { copy_above: above == 1, raw_index, run, scan: scan as usize }).collect()
+}

@@ -15,12 +15,16 @@ mod list_blocks;
 mod plan;
 mod port;
 mod quant;
+mod read;
 mod refusals;
 mod report;
+mod runs;
 mod scan;
+mod second;
 mod smooth;
 mod speed;
 mod update;
+mod write;
 
 use report::Report;
 use std::path::Path;
@@ -76,6 +80,8 @@ fn main() -> ExitCode {
     chain::compare(&mut report);
     smooth::compare(&mut report);
     plan::compare(&mut report);
+    write::compare(&mut report);
+    read::compare(&mut report);
     if report.finish() {
         ExitCode::SUCCESS
     } else {

@@ -79,7 +79,7 @@ fn coded_rates(random: &mut Random) -> Vec<f32> {
 }
 
 /// Flat, any, of few values so that ties abound, none, from CABAC states, at the limits.
-fn rates(random: &mut Random) -> Vec<f32> {
+pub fn rates(random: &mut Random) -> Vec<f32> {
     let few: [f32; 3] = [0; 3].map(|_| one_of(random, &[0.0, 0.5, 1.0, 1.0, 2.0, 3.5, 0.1]));
     match random.below(8) {
         0 => vec![1.0; 18],
@@ -95,7 +95,7 @@ fn rates(random: &mut Random) -> Vec<f32> {
 // ---- blocks
 
 /// A block of one component with indices of the caller's own.
-fn own(size: usize, entries: usize, escape: bool, indices: &[u16]) -> Vec<u16> {
+pub fn own(size: usize, entries: usize, escape: bool, indices: &[u16]) -> Vec<u16> {
     let mut list = vec![0; BLOCK];
     list[at::SIZE] = size as u16;
     (list[at::LUMA], list[at::CHROMA]) = (8, 8);
@@ -168,7 +168,7 @@ fn drawn(random: &mut Random) -> Input {
 }
 
 /// All maps of a size over the indices up to M, which is entries, or escapes too.
-fn maps(size: usize, most: usize) -> impl Iterator<Item = Vec<u16>> {
+pub fn maps(size: usize, most: usize) -> impl Iterator<Item = Vec<u16>> {
     let cells = size * size;
     (0..(most + 1).pow(cells as u32)).flat_map(move |word| {
         let indices: Vec<u16> = (0..cells as u32).map(|k| (word / (most + 1).pow(k) % (most + 1)) as u16).collect();

@@ -1,11 +1,13 @@
 -- Rate models and run lists as lists of numbers; the layout stands in src/lib.rt.
 use mathlib.Core.Bool.{false}
 use mathlib.Core.List.{List, [], _∷_}
-use Prim.Native.Nat.{ℕ, _+_, _*_}
+use Prim.Native.Nat.{ℕ, _+_, _*_, min}
+use lib.Dec.{eqb}
 use lib.Ieee.{Float, binary32, ofBits}
-use lib.ListN.{getD}
+use lib.ListN.{getD, replicate}
+use Rattle.base.specs.Cells.{laid}
 use Rattle.h265.specs.Strings.{bit}
-use Rattle.flat.specs.Flat.{each}
+use Rattle.flat.specs.Flat.{number, each}
 use Rattle.model.specs.declared.PaletteRun.{PaletteRun}
 use Rattle.rates.specs.declared.Pair.{Pair}
 use Rattle.rates.specs.declared.RateModel.{RateModel}
@@ -26,3 +28,13 @@ modelOf l = record { «run_type» = pairAt l 0; «run_prefix» = each noPair 8 (
 unfoldable pub flatRuns : List PaletteRun → List ℕ
 flatRuns [] = []
 flatRuns (r ∷ rs) = bit (r .above) ∷ r .sent ∷ r .more ∷ r .start ∷ flatRuns rs
+
+unfoldable pub runAt : List ℕ → ℕ → PaletteRun
+runAt l p = record { above = eqb (number l p) 1; sent = number l (p + 1); more = number l (p + 2); start = number l (p + 3) }
+
+abbrev pub noRun : PaletteRun
+noRun = record { above = false; sent = 0; more = 0; start = 0 }
+
+-- the first runs of a list, at most 1024, and blank ones after them
+unfoldable pub runsOf : List ℕ → ℕ → List PaletteRun
+runsOf l count = laid (λ i. runAt l (4 * i)) (replicate 1024 noRun) 0 (min count 1024)

@@ -1,6 +1,5 @@
 -- What is left to lay of an array's first runs, from place i on.
 use mathlib.Core.Path.{_≡_, refl, ap, sym, _∙_}
-use mathlib.Core.Bool.{false}
 use mathlib.Core.List.{List, [], _∷_}
 use mathlib.Core.Logic.{⊎-elim}
 use Prim.Native.Nat.{ℕ, zero, suc, _+_, _≤_, _<_, min}
@@ -12,10 +11,7 @@ use Rattle.base.specs.Counted.{read, end}
 use Rattle.base.specs.Pick.{lt-or-le}
 use Rattle.h265.specs.Strings.{bit}
 use Rattle.model.specs.declared.PaletteRun.{PaletteRun}
-use Rattle.flatplan.specs.Flat.{flatRuns}
-
-abbrev noRun : PaletteRun
-noRun = record { above = false; sent = 0; more = 0; start = 0 }
+use Rattle.flatplan.specs.Flat.{flatRuns, noRun}
 
 module _ (rs : List PaletteRun) (count i : ℕ) where
   pub runs-next : i < count → count ≤ length rs

@@ -1,16 +1,16 @@
-// Rate models and run lists as lists of numbers, for callers that have no records. A list may have any length: a rate that is missing reads as 0, and what would lie past the end is not laid.
+// Rate models and run lists as lists of numbers, for callers that have no records. A list may have any length: a rate or number that is missing reads as 0, and what would lie past the end is not laid.
 //
 // Rates are eighteen: those of the run type's bins 0 and 1, then of each run-prefix context's bins 0 and 1.
-// A run has four numbers: 1 where it copies from above, else 0; the index sent; its further cells; its start.
+// A run has four numbers: 1 where it copies from above, any other where not; the index sent; its further cells; its start.
 ghost use mathlib.Core.Path.{_≡_};
 ghost use mathlib.Core.List.{[], _∷_};
 ghost use Prim.Native.Nat.{_+_, _*_, _≤_, min};
-ghost use lib.ListN.{take};
+ghost use lib.ListN.{take, set};
 ghost use lib.Seq.{sets};
 ghost use Rattle.base.specs.Laid.{Laid};
 ghost use Rattle.h265.specs.Strings.{bit};
-ghost use Rattle.flat.specs.Flat.{each};
-ghost use Rattle.flatplan.specs.Flat.{rateAt, pairAt, noPair, modelOf, flatRuns};
+ghost use Rattle.flat.specs.Flat.{number, each};
+ghost use Rattle.flatplan.specs.Flat.{rateAt, pairAt, noPair, modelOf, flatRuns, runAt, runsOf};
 use model::PaletteRun;
 use rates::Pair;
 use rates::RateModel;
@@ -118,4 +118,60 @@ pub fn lay_runs(runs: [PaletteRun; 1024], count: usize, list: &mut [u32])
 {
     let n = held(count);
     put_runs(list, runs, n);
+}
+
+// The number at a place, 0 past the end.
+fn number(list: &[u32], i: usize) -> u32
+    ensures { λ r. ⌜ r ≡ number (now (list .entry)) i ⌝ }
+{
+    if i < list.len() {
+        return list[i];
+    }
+    0
+}
+
+// The run at a place.
+fn run_at(list: &[u32], p: usize) -> PaletteRun
+    requires { ⌜ p ≤ 4096 ⌝ }
+    ensures { λ r. ⌜ r ≡ runAt (now (list .entry)) p ⌝ }
+{
+    let above = number(list, p);
+    let sent = number(list, p + 1);
+    let more = number(list, p + 2);
+    let start = number(list, p + 3);
+    PaletteRun {
+        above: above == 1,
+        sent,
+        more,
+        start,
+    }
+}
+
+// The first runs that a list of numbers is, at most 1024, and blank ones after them.
+pub fn runs_of(list: &[u32], count: usize) -> [PaletteRun; 1024]
+    ensures { λ r. ⌜ r ≡ runsOf (now (list .entry)) count ⌝ }
+{
+    let n = held(count);
+    let mut out = [PaletteRun {
+        above: false,
+        sent: 0,
+        more: 0,
+        start: 0,
+    }; 1024];
+    let mut i: usize = 0;
+    while i < n {
+        let run = run_at(list, 4 * i);
+        out[i] = run;
+        i += 1;
+    }
+    out
+}
+
+// A number at the first place, where there is one.
+pub fn put_count(list: &mut [usize], x: usize)
+    ensures { λ _. ⌜ now (list .exit) ≡ set (now (list .entry)) 0 x ⌝ }
+{
+    if 0 < list.len() {
+        list[0] = x;
+    }
 }
