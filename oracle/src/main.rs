@@ -16,6 +16,7 @@ mod plan;
 mod port;
 mod quant;
 mod read;
+mod recon;
 mod refusals;
 mod report;
 mod runs;
@@ -82,6 +83,7 @@ fn main() -> ExitCode {
     plan::compare(&mut report);
     write::compare(&mut report);
     read::compare(&mut report);
+    recon::compare(&mut report);
     if report.finish() {
         ExitCode::SUCCESS
     } else {

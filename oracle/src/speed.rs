@@ -8,6 +8,7 @@ use crate::palette::{
     analyze_palette, assign_indices, harness, plan_runs, smooth_indices, ColorIndex, PaletteConfig, PaletteCu, PalettePredictor, PaletteRateModel, PaletteRun,
 };
 use crate::plan::Plan;
+use crate::recon;
 use crate::report::Random;
 use crate::smooth::Smooth;
 use crate::update::Update;
@@ -115,13 +116,13 @@ fn medians(inputs: &mut [Input], mut source: impl FnMut(&Input, &mut Buffers), p
 }
 
 /// In µs.
-fn timed(call: impl FnOnce()) -> f64 {
+pub fn timed(call: impl FnOnce()) -> f64 {
     let began = Instant::now();
     call();
     began.elapsed().as_secs_f64() * 1e6
 }
 
-fn median(mut times: Vec<f64>) -> f64 {
+pub fn median(mut times: Vec<f64>) -> f64 {
     times.sort_by(f64::total_cmp);
     times[times.len() / 2]
 }
@@ -167,5 +168,8 @@ pub fn measure() {
         line("update", medians(&mut inputs, update, Update::port));
         line("smoothing", medians(&mut inputs, smooth, Smooth::port));
         line("planning", medians(&mut inputs, plan, Plan::port));
+        for (what, clipped, transposed) in [("reconstruction", false, false), ("clipped", true, false), ("transposed", false, true), ("clipped, transposed", true, true)] {
+            line(what, recon::times(&inputs, ROUNDS, clipped, transposed));
+        }
     }
 }
