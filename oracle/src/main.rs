@@ -81,9 +81,9 @@ fn main() -> ExitCode {
     chain::compare(&mut report);
     smooth::compare(&mut report);
     plan::compare(&mut report);
+    recon::compare(&mut report);
     write::compare(&mut report);
     read::compare(&mut report);
-    recon::compare(&mut report);
     if report.finish() {
         ExitCode::SUCCESS
     } else {

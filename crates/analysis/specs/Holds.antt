@@ -281,6 +281,11 @@ predictor-few : (format luma chroma : ℕ) (p : PalettePredictor) → predictorI
 unfolding predictorIn
 predictor-few format luma chroma p h = leb-true (p .size) 128 (both (leb (p .size) 128) _ h .0)
 
+-- a call that is not refused was lent a valid predictor
+pub lent-with : (luma cb cr : List ℕ) (c : PaletteConfig) (g : SourceBlock) (p : PalettePredictor) (k : ColorIndex) (tol : ℕ) → analyzeWithOf luma cb cr c g p k tol .refusal ≡ 0 → predictorIn (c .«chroma_idc») (c .«bd_luma») (c .«bd_chroma») p ≡ true
+unfolding analyzeWithOf answerOf lentIn
+lent-with luma cb cr c g p k tol e = both (predictorIn (c .«chroma_idc») (c .«bd_luma») (c .«bd_chroma») p) _ (by-colours luma cb cr c g p k tol (unrefused _ e) .lent) .0
+
 -- the call's facts of its types: samples are of 16 bits, and a predictor has room for 128 entries
 module _ (luma cb cr : List ℕ) (c : PaletteConfig) (g : SourceBlock) (p : PalettePredictor) (k : ColorIndex) (samples : Plane luma) (full : length (p .entries) ≡ 128) where
   -- assignment takes the block made at a tolerance lent

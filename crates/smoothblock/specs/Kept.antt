@@ -8,7 +8,7 @@ use native.Mathlib.Omega.{arith}
 use borrow.Author.Tests.{eqb-true, le-leb, lt-leb, leb-true, not-true}
 use lib.Dec.{eqb, leb}
 use lib.Ieee.{Float, nan, inf, fin, lt}
-use lib.ListN.{length, getD, set}
+use lib.ListN.{length, getD, set, length-set}
 use lib.Seq.{getD-set-same, getD-set-other, set-out}
 use Rattle.base.specs.Cells.{laid}
 use Rattle.base.specs.Pick.{pick, either, true-false, lt-or-le, eq-or-ne}
@@ -23,6 +23,7 @@ pub record Keeps (escape n : ℕ) (is js : List ℕ) : Type 0 where
   pub alike : (i : ℕ) → eqb (getD js i 0) escape ≡ eqb (getD is i 0) escape
   pub most : (m : ℕ) → ((i : ℕ) → i < n → getD is i 0 ≤ m) → (i : ℕ) → i < n → getD js i 0 ≤ m
   pub past : (i : ℕ) → n ≤ i → getD js i 0 ≡ getD is i 0
+  pub count : length js ≡ length is
 
 -- ---- one place
 
@@ -39,16 +40,17 @@ set-either l i v j a b =
 
 module _ (escape n : ℕ) where
   keeps-none : (is : List ℕ) → Keeps escape n is is
-  keeps-none is = record { alike = λ i. refl; most = λ m b. b; past = λ i h. refl }
+  keeps-none is = record { alike = λ i. refl; most = λ m b. b; past = λ i h. refl; count = refl }
 
   keeps-then : (is js ks : List ℕ) → Keeps escape n is js → Keeps escape n js ks → Keeps escape n is ks
-  keeps-then is js ks a b = record { alike = λ i. b .alike i ∙ a .alike i; most = λ m h. b .most m (a .most m h); past = λ i h. b .past i h ∙ a .past i h }
+  keeps-then is js ks a b = record { alike = λ i. b .alike i ∙ a .alike i; most = λ m h. b .most m (a .most m h); past = λ i h. b .past i h ∙ a .past i h; count = b .count ∙ a .count }
 
   keeps-set : (is l : List ℕ) (i v : ℕ) → Keeps escape n is l → i < n → eqb (getD is i 0) escape ≡ false → eqb v escape ≡ false → ((m : ℕ) → ((j : ℕ) → j < n → getD is j 0 ≤ m) → v ≤ m) → Keeps escape n is (set l i v)
   keeps-set is l i v k h o w b = record {
     alike = λ j. set-either l i v j (λ q e. ap (λ (z : ℕ). eqb z escape) e ∙ w ∙ sym (ap (λ (z : ℕ). eqb (getD is z 0) escape) q ∙ o)) (λ e. ap (λ (z : ℕ). eqb z escape) e ∙ k .alike j);
     most = λ m a j g. set-either l i v j (λ q e. rw e (b m a)) (λ e. rw e (k .most m a j g));
     past = λ j g. set-either l i v j (λ q e. absurd (omega arith)) (λ e. e ∙ k .past j g);
+    count = length-set l i v ∙ k .count;
   }
 
   -- ---- a run

@@ -89,6 +89,14 @@ module _ (luma cb cr : List ℕ) (c : PaletteConfig) (g : SourceBlock) (lambda b
   unfolding blockIn
   whole-before e = both (holds 64 cu) _ (accepted luma cb cr c g cu (none-refused e)) .0
 
+  -- a refused block is as it came
+  pub refused-kept : (given .refusal ≡ 0 → ⊥) → given .cu ≡ cu
+  unfolding smoothOf answer
+  refused-kept d =
+      either (eqb (smoothRefusal luma cb cr c g cu) 0)
+      (λ t. absurd (d (rw t)))
+      (λ t. rw t)
+
   -- palette, flags, levels and the rest are as they were: only the indices and the error figure may differ
   pub rest-kept : withMap (given .cu) (cu .indices) (cu .sse) ≡ cu
   unfolding smoothOf answer mapped
