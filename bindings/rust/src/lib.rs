@@ -50,7 +50,7 @@ pub use calls::{
     write_palette_cu, write_palette_cu_into,
 };
 pub use leaves::{color_tolerance, dequant_escape, quantize_escape, scan_pos, scan_pos_inv};
-pub use records::{PaletteConfig, PaletteRateModel, PaletteRun, Planned, ReconTarget, SourceBlock};
+pub use records::{Bin, PaletteConfig, PaletteRateModel, PaletteRun, Planned, ReconTarget, SourceBlock};
 pub use refusal::{Refusal, RefusedAt, WrongLength};
 pub use state::{ColorIndex, PalettePredictor};
 

@@ -194,3 +194,43 @@ impl Planned {
         }
     }
 }
+
+/// A bin with what codes it: a byte of a bin list, class × 2 + bin.
+///
+/// ```
+/// use velomitra::Bin;
+/// assert_eq!([0, 3, 4, 7].map(Bin::from_byte), [Bin::Bypass(0), Bin::RunType(1), Bin::Transpose(0), Bin::RunPrefix(0, 1)].map(Some));
+/// ```
+#[derive(Clone, Copy, Debug, PartialEq, Eq)]
+pub enum Bin {
+    Bypass(u8),
+    /// The run type's flag, and the final run's.
+    RunType(u8),
+    Transpose(u8),
+    /// A run-prefix context, 0 to 7, and the bin.
+    RunPrefix(usize, u8),
+    /// Where the QP syntax of escapes stands; no bin of its own.
+    EscapeQp,
+}
+
+impl Bin {
+    /// The bin of a byte; one over 22 is of no class.
+    ///
+    /// ```
+    /// use velomitra::Bin;
+    /// assert_eq!(Bin::from_byte(21), Some(Bin::RunPrefix(7, 1)));
+    /// assert_eq!(Bin::from_byte(22), Some(Bin::EscapeQp));
+    /// assert_eq!(Bin::from_byte(23), None);
+    /// ```
+    pub fn from_byte(byte: u8) -> Option<Bin> {
+        let bin = byte % 2;
+        match byte / 2 {
+            0 => Some(Bin::Bypass(bin)),
+            1 => Some(Bin::RunType(bin)),
+            2 => Some(Bin::Transpose(bin)),
+            class @ 3..=10 => Some(Bin::RunPrefix(usize::from(class) - 3, bin)),
+            11 if bin == 0 => Some(Bin::EscapeQp),
+            _ => None,
+        }
+    }
+}

@@ -88,6 +88,7 @@ fn blocks_in_a_row() {
             let start = bits.len();
             let laid = write_palette_cu(&mut bits, &cu, &runs).unwrap();
             assert_eq!(bits.len(), start + laid);
+            assert!(bits[start..].iter().all(|&byte| Bin::from_byte(byte).is_some()));
 
             assert_eq!(read_palette_cu(&bits[start..], size, &cfg, &read_by, &mut read, &mut read_runs), Ok(laid));
             assert_eq!(read_runs, runs);
