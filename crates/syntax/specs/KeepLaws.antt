@@ -34,6 +34,11 @@ pub keeps-le : (size n scan : ℕ) (prev : Bool) (rs : List Run) → Keeps size 
 keeps-le size n scan prev [] k = omega arith
 keeps-le size n scan prev (r ∷ rs) k = omega (arith, keeps-le size n (scan + r .more + 1) (r .above) rs (k .1))
 
+-- runs are no more than the cells
+pub keeps-count : (size n scan : ℕ) (prev : Bool) (rs : List Run) → Keeps size n scan prev rs → scan + length rs ≤ n
+keeps-count size n scan prev [] k = omega arith
+keeps-count size n scan prev (r ∷ rs) k = omega (arith, keeps-count size n (scan + r .more + 1) (r .above) rs (k .1))
+
 -- a run list without index runs: each copies from above
 no-index : (r : Run) (rs : List Run) → length (sentOf (r ∷ rs)) ≡ 0 → r .above ≡ true
 no-index r rs h = go (r .above) refl
