@@ -1,4 +1,4 @@
--- The runs at the front of the array are the planned ones, and they are no more than the cells.
+-- The runs at the front of the array are the planned ones.
 use mathlib.Core.Path.{_≡_, refl, ap, sym, _∙_}
 use mathlib.Core.Bool.{Bool, true, false}
 use mathlib.Core.List.{List, [], _∷_, _++_, append-assoc, append-nil}
@@ -10,7 +10,6 @@ use lib.ListN.{length, set, take, length-set, length-replicate}
 use lib.Seq.{sets}
 use Rattle.base.specs.Counted.{push}
 use Rattle.model.specs.declared.PaletteRun.{PaletteRun}
-use Rattle.syntax.specs.Runs.{Run, Keeps}
 use Rattle.walk.specs.Points.{noRun}
 use Rattle.finish.specs.Found.{laidRuns}
 
@@ -25,7 +24,3 @@ pub front-runs : (rs : List PaletteRun) → length rs ≤ 1024 → take (length 
 front-runs rs h =
     let z : 0 + length rs ≡ length rs = zero-add (length rs) in
     rw z at (front (laidRuns []) rs 0 (rw (z, length-replicate {A = PaletteRun} 1024 noRun) h))
-
-pub keeps-count : (size n scan : ℕ) (prev : Bool) (rs : List Run) → Keeps size n scan prev rs → scan + length rs ≤ n
-keeps-count size n scan prev [] k = omega arith
-keeps-count size n scan prev (r ∷ rs) k = omega (arith, keeps-count size n (scan + r .more + 1) (r .above) rs (k .1))

@@ -17,6 +17,7 @@ use Rattle.model.specs.WholeLaws.{whole}
 use Rattle.rates.specs.declared.RateModel.{RateModel}
 use Rattle.rates.specs.Rates.{ratesIn}
 use Rattle.sums.specs.Finite.{type-upto, run-upto, shares-upto}
+use Rattle.syntax.specs.KeepLaws.{keeps-count}
 use Rattle.syntax.specs.Runs.{Keeps, sentOf}
 use Rattle.syntax.specs.Replay.{Replays, replay}
 use Rattle.syntax.specs.ReplayLaws.{Alphabets, rules-keep, rules-alphabets}
@@ -29,7 +30,7 @@ use Rattle.plan.specs.AnswerLaws.{most-in}
 use Rattle.covers.specs.Reach.{Fair, reached-upto, done-kept, cost-upto}
 use Rattle.covers.specs.Covers.{chosen-reached, planned-rules, planned-replay, total-finite}
 use Rattle.covers.specs.Least.{entryAt, best, least}
-use Rattle.planned.specs.Front.{front-runs, keeps-count}
+use Rattle.planned.specs.Front.{front-runs}
 use Rattle.planned.specs.Told.{answer-is, runs-told}
 
 -- n, the block's indices along the scan, the planned runs, and the table that the sweep leaves

@@ -21,17 +21,13 @@ use Rattle.readblock.specs.declared.BlockRead.{BlockRead}
 use Rattle.readblock.specs.Read.{refusedOf, answerOf}
 use Rattle.syntax.specs.Block.{Call, Told, Map, cellsIn, maxIndex, paletteOf, readBlock}
 use Rattle.syntax.specs.BlockLaws.{ToldOk, block-code}
+use Rattle.syntax.specs.KeepLaws.{keeps-count}
 use Rattle.syntax.specs.PaletteLaws.{CallOk}
 use Rattle.syntax.specs.Records.{noRun}
-use Rattle.syntax.specs.Runs.{Run, Keeps}
 use Rattle.runlist.specs.Lists.{laid-none, laid-front, laid-past, laid-length}
 use Rattle.readlist.specs.After.{cuRead, countedOf, runsAfter}
 
 -- ---- runs are no more than the cells
-
-keeps-count : (size n scan : ℕ) (prev : Bool) (rs : List Run) → Keeps size n scan prev rs → scan + length rs ≤ n
-keeps-count size n scan prev [] k = omega arith
-keeps-count size n scan prev (r ∷ rs) k = omega (arith, keeps-count size n (scan + r .more + 1) (r .above) rs (k .1))
 
 told-count : (c : Call) (t : Told) → ToldOk c t → length (t .runs) ≤ cellsIn c
 told-count c t ok =
