@@ -68,6 +68,7 @@ module _ (cu : PaletteCu) (p : PalettePredictor) (m : RateModel) (list : List Pa
     pub block : Same cu (read .cu)
     pub used : read .used ≡ wrote .bins
     -- its runs stand at the start of the reader's list, and every record past them is as it was
+    pub count : read .count ≡ length (runsSent cu runs)
     pub back : take (read .count) listed ≡ runsSent cu runs
     pub kept : drop (read .count) listed ≡ drop (read .count) other
 
@@ -107,6 +108,7 @@ module _ (cu : PaletteCu) (p : PalettePredictor) (m : RateModel) (list : List Pa
         accepted = b .accepted;
         block = b .block;
         used = b .used;
+        count = b .count ∙ ap (λ (x : List PaletteRun). length (runsSent cu x)) t;
         back = l .0 ∙ b .runs ∙ ap (runsSent cu) t;
         kept = l .1;
       }

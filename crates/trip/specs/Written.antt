@@ -110,6 +110,7 @@ module _ (cu : PaletteCu) (p : PalettePredictor) (a : Arrays p cu) (ready : Read
         tolerance = refl;
         figure = refl;
       };
+      count = ap (λ (m : ℕ). length (pick (ltb 0 m) rs [])) (top-is cu p a ready);
       runs =
           padded-take 1024 noRun (pick (ltb 0 (topIndex (blockOf cu))) rs []) (length (pick (ltb 0 (topIndex (blockOf cu))) rs [])) refl
           ∙ ap (λ (m : ℕ). pick (ltb 0 m) rs []) (top-is cu p a ready);
