@@ -1,5 +1,5 @@
 -- Every refusal of the reader has a number from 1 on.
-use mathlib.Core.Path.{_≡_, refl, sym, subst}
+use mathlib.Core.Path.{_≡_}
 use mathlib.Core.Bool.{Bool, true, false}
 use mathlib.Core.List.{List, [], _∷_}
 use Prim.Native.Nat.{ℕ, zero, suc, _+_, _*_, _-_, _^_, _≤_}
@@ -14,8 +14,8 @@ use Rattle.h265.specs.Parse.{binAt, markerAt, bitsFrom, bitsAt, onesFrom, egkAt
 use Rattle.h265.specs.Reuse.{trues, gapOf, reuseAt}
 use Rattle.h265.specs.Strings.{bit, short, flog, bypass, riceOf, runClass, suffixes}
 use Rattle.model.specs.declared.PalettePredictor.{PalettePredictor}
-use Rattle.syntax.specs.Block.{Call, Palette, Map, Told, cellsIn, maxIndex, chromaDepth, alphabets, lumaDues, chromaDues, signalledAt, entriesAt, paletteAt, indicesAt, codedAt, mapAt, cellsOf, levelAt, levelsAt, sentAt, readBlock}
-use Rattle.syntax.specs.Runs.{Run, asked, inferred, kindAt, isLast, reserved, moreAt, nextSent, runsAt}
+use Rattle.syntax.specs.Block.{Call, Palette, cellsIn, maxIndex, chromaDepth, alphabets, lumaDues, chromaDues, signalledAt, entriesAt, paletteAt, indicesAt, codedAt, mapAt, cellsOf, levelAt, levelsAt, sentAt, readBlock}
+use Rattle.syntax.specs.Runs.{asked, inferred, kindAt, isLast, reserved, moreAt, nextSent, runsAt}
 use Rattle.read.specs.Reading.{readRefusal, callWith, readAnswer}
 
 abbrev pub Named : {A : Type 0} → Answer A → Type 0
