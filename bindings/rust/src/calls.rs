@@ -2,7 +2,7 @@
 
 use crate::{
     ColorIndex, PaletteConfig, PaletteCu, PalettePredictor, PaletteRateModel, PaletteRun, Planned, ReconTarget, Refusal, RefusedAt,
-    SourceBlock, exported,
+    SourceBlock,
 };
 
 /// The most bins that a block has.
@@ -40,31 +40,10 @@ pub fn analyze_palette(
     out: &mut PaletteCu,
 ) -> Result<(), Refusal> {
     let (config, source) = (cfg.numbers(), src.numbers());
-    // SAFETY: as exported says
-    Refusal::of(unsafe {
-        exported::velomitra_analyze_palette(
-            src.y.as_ptr(),
-            src.y.len(),
-            src.cb.as_ptr(),
-            src.cb.len(),
-            src.cr.as_ptr(),
-            src.cr.len(),
-            config.as_ptr(),
-            config.len(),
-            source.as_ptr(),
-            source.len(),
-            predictor.numbers.as_ptr(),
-            predictor.numbers.len(),
-            seen.keys.as_mut_ptr(),
-            seen.keys.len(),
-            seen.entry.as_mut_ptr(),
-            seen.entry.len(),
-            seen.stamp.as_mut_ptr(),
-            seen.stamp.len(),
-            out.numbers.as_mut_ptr(),
-            out.numbers.len(),
-        )
-    })
+    Refusal::of(exported!(
+        velomitra_analyze_palette: ref src.y, ref src.cb, ref src.cr, ref config, ref source, ref predictor.numbers,
+        mut seen.keys, mut seen.entry, mut seen.stamp, mut out.numbers
+    ))
 }
 
 /// The same at a tolerance of the caller's, 0 to 16; another is refused by 7.
@@ -90,32 +69,10 @@ pub fn analyze_with(
     out: &mut PaletteCu,
 ) -> Result<(), Refusal> {
     let (config, source) = (cfg.numbers(), src.numbers());
-    // SAFETY: as exported says
-    Refusal::of(unsafe {
-        exported::velomitra_analyze_with(
-            src.y.as_ptr(),
-            src.y.len(),
-            src.cb.as_ptr(),
-            src.cb.len(),
-            src.cr.as_ptr(),
-            src.cr.len(),
-            config.as_ptr(),
-            config.len(),
-            source.as_ptr(),
-            source.len(),
-            predictor.numbers.as_ptr(),
-            predictor.numbers.len(),
-            tolerance,
-            seen.keys.as_mut_ptr(),
-            seen.keys.len(),
-            seen.entry.as_mut_ptr(),
-            seen.entry.len(),
-            seen.stamp.as_mut_ptr(),
-            seen.stamp.len(),
-            out.numbers.as_mut_ptr(),
-            out.numbers.len(),
-        )
-    })
+    Refusal::of(exported!(
+        velomitra_analyze_with: ref src.y, ref src.cb, ref src.cr, ref config, ref source, ref predictor.numbers,
+        tolerance, mut seen.keys, mut seen.entry, mut seen.stamp, mut out.numbers
+    ))
 }
 
 /// A block's cells to its palette, or to escapes where they are beyond tolerance, with the error figure. Refusals 1 to 4, 7, 14.
@@ -136,24 +93,7 @@ pub fn analyze_with(
 /// ```
 pub fn assign_indices(src: &SourceBlock, cfg: &PaletteConfig, transpose: bool, out: &mut PaletteCu) -> Result<(), Refusal> {
     let (config, source) = (cfg.numbers(), src.numbers());
-    // SAFETY: as exported says
-    Refusal::of(unsafe {
-        exported::velomitra_assign_indices(
-            src.y.as_ptr(),
-            src.y.len(),
-            src.cb.as_ptr(),
-            src.cb.len(),
-            src.cr.as_ptr(),
-            src.cr.len(),
-            config.as_ptr(),
-            config.len(),
-            source.as_ptr(),
-            source.len(),
-            transpose,
-            out.numbers.as_mut_ptr(),
-            out.numbers.len(),
-        )
-    })
+    Refusal::of(exported!(velomitra_assign_indices: ref src.y, ref src.cb, ref src.cr, ref config, ref source, transpose, mut out.numbers))
 }
 
 /// The error figure of a block: the sum of squares over the samples that a decoder writes, a whole number. Refusals 1 to 4, 7.
@@ -168,25 +108,7 @@ pub fn assign_indices(src: &SourceBlock, cfg: &PaletteConfig, transpose: bool, o
 /// ```
 pub fn palette_sse(src: &SourceBlock, cfg: &PaletteConfig, cu: &PaletteCu) -> Result<u64, Refusal> {
     let (config, source, mut figure) = (cfg.numbers(), src.numbers(), [0]);
-    // SAFETY: as exported says
-    Refusal::of(unsafe {
-        exported::velomitra_palette_sse(
-            src.y.as_ptr(),
-            src.y.len(),
-            src.cb.as_ptr(),
-            src.cb.len(),
-            src.cr.as_ptr(),
-            src.cr.len(),
-            config.as_ptr(),
-            config.len(),
-            source.as_ptr(),
-            source.len(),
-            cu.numbers.as_ptr(),
-            cu.numbers.len(),
-            figure.as_mut_ptr(),
-            figure.len(),
-        )
-    })?;
+    Refusal::of(exported!(velomitra_palette_sse: ref src.y, ref src.cb, ref src.cr, ref config, ref source, ref cu.numbers, mut figure))?;
     Ok(figure[0])
 }
 
@@ -218,25 +140,10 @@ pub fn smooth_indices(
     out: &mut PaletteCu,
 ) -> Result<bool, Refusal> {
     let (config, source) = (cfg.numbers(), src.numbers());
-    // SAFETY: as exported says
-    let told = unsafe {
-        exported::velomitra_smooth_indices(
-            src.y.as_ptr(),
-            src.y.len(),
-            src.cb.as_ptr(),
-            src.cb.len(),
-            src.cr.as_ptr(),
-            src.cr.len(),
-            config.as_ptr(),
-            config.len(),
-            source.as_ptr(),
-            source.len(),
-            lambda,
-            bits_per_run,
-            out.numbers.as_mut_ptr(),
-            out.numbers.len(),
-        )
-    };
+    let told = exported!(
+        velomitra_smooth_indices: ref src.y, ref src.cb, ref src.cr, ref config, ref source,
+        lambda, bits_per_run, mut out.numbers
+    );
     Refusal::of((told / 2) as u8)?;
     Ok(told % 2 == 1)
 }
@@ -253,21 +160,7 @@ pub fn smooth_indices(
 pub fn plan_runs(cu: &PaletteCu, model: &PaletteRateModel, runs: &mut Vec<PaletteRun>) -> Result<Planned, Refusal> {
     let (rates, mut list, mut count, mut total) = (model.numbers(), [[0; 4]; MOST_RUNS], [0], [0.0]);
     let flat = list.as_flattened_mut();
-    // SAFETY: as exported says
-    Refusal::of(unsafe {
-        exported::velomitra_plan_runs(
-            cu.numbers.as_ptr(),
-            cu.numbers.len(),
-            rates.as_ptr(),
-            rates.len(),
-            flat.as_mut_ptr(),
-            flat.len(),
-            count.as_mut_ptr(),
-            count.len(),
-            total.as_mut_ptr(),
-            total.len(),
-        )
-    })?;
+    Refusal::of(exported!(velomitra_plan_runs: ref cu.numbers, ref rates, mut flat, mut count, mut total))?;
     let ([count], [total]) = (count, total);
     runs.clear();
     runs.extend(list[..count].iter().map(PaletteRun::of));
@@ -317,20 +210,7 @@ pub fn write_palette_cu_into(bins: &mut [u8], cu: &PaletteCu, runs: &[PaletteRun
         *numbers = run.numbers();
     }
     let flat = list.as_flattened();
-    // SAFETY: as exported says
-    Refusal::of(unsafe {
-        exported::velomitra_write_palette_cu(
-            cu.numbers.as_ptr(),
-            cu.numbers.len(),
-            flat.as_ptr(),
-            flat.len(),
-            runs.len(),
-            bins.as_mut_ptr(),
-            bins.len(),
-            used.as_mut_ptr(),
-            used.len(),
-        )
-    })?;
+    Refusal::of(exported!(velomitra_write_palette_cu: ref cu.numbers, ref flat, runs.len(), mut bins, mut used))?;
     Ok(used[0])
 }
 
@@ -363,30 +243,10 @@ pub fn read_palette_cu(
 ) -> Result<usize, RefusedAt> {
     let (mut list, mut count, mut used, mut place) = ([[0; 4]; MOST_RUNS], [0], [0], [0]);
     let flat = list.as_flattened_mut();
-    // SAFETY: as exported says
-    let number = unsafe {
-        exported::velomitra_read_palette_cu(
-            bits.as_ptr(),
-            bits.len(),
-            size,
-            cfg.chroma_idc,
-            cfg.bd_luma,
-            cfg.bd_chroma,
-            cfg.lossless,
-            predictor.numbers.as_ptr(),
-            predictor.numbers.len(),
-            out.numbers.as_mut_ptr(),
-            out.numbers.len(),
-            flat.as_mut_ptr(),
-            flat.len(),
-            count.as_mut_ptr(),
-            count.len(),
-            used.as_mut_ptr(),
-            used.len(),
-            place.as_mut_ptr(),
-            place.len(),
-        )
-    };
+    let number = exported!(
+        velomitra_read_palette_cu: ref bits, size, cfg.chroma_idc, cfg.bd_luma, cfg.bd_chroma, cfg.lossless, ref predictor.numbers,
+        mut out.numbers, mut flat, mut count, mut used, mut place
+    );
     Refusal::of(number).map_err(|refusal| RefusedAt { refusal, place: place[0] })?;
     runs.clear();
     runs.extend(list[..count[0]].iter().map(PaletteRun::of));
@@ -407,23 +267,8 @@ pub fn read_palette_cu(
 /// ```
 pub fn reconstruct(cu: &PaletteCu, cfg: &PaletteConfig, dst: &mut ReconTarget, x0: usize, y0: usize) -> Result<(), Refusal> {
     let (config, source) = (cfg.numbers(), [dst.y_width, dst.y_height, dst.c_width, dst.c_height, x0, y0, cu.size()]);
-    // SAFETY: as exported says
-    Refusal::of(unsafe {
-        exported::velomitra_reconstruct(
-            dst.y.as_mut_ptr(),
-            dst.y.len(),
-            dst.cb.as_mut_ptr(),
-            dst.cb.len(),
-            dst.cr.as_mut_ptr(),
-            dst.cr.len(),
-            dst.y_stride,
-            dst.c_stride,
-            config.as_ptr(),
-            config.len(),
-            source.as_ptr(),
-            source.len(),
-            cu.numbers.as_ptr(),
-            cu.numbers.len(),
-        )
-    })
+    Refusal::of(exported!(
+        velomitra_reconstruct: mut dst.y, mut dst.cb, mut dst.cr, dst.y_stride, dst.c_stride,
+        ref config, ref source, ref cu.numbers
+    ))
 }

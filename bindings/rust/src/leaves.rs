@@ -1,6 +1,6 @@
 //! Scan and escape arithmetic of single cells. A leaf answers nothing outside its domain.
 
-use crate::{PaletteConfig, exported};
+use crate::PaletteConfig;
 
 /// A leaf's number, where it has one.
 fn known(number: u64) -> Option<u64> {
@@ -14,8 +14,7 @@ fn most(bit_depth: u8) -> Option<u64> {
 
 /// The step of a QP of at most 75; negatives count as 0.
 fn step(qp: i32) -> Option<u64> {
-    // SAFETY: as exported says
-    known(unsafe { exported::velomitra_step(qp) })
+    known(exported!(velomitra_step: qp))
 }
 
 /// Column and row of a scan place of a block of side `size`.
@@ -25,8 +24,7 @@ fn step(qp: i32) -> Option<u64> {
 /// assert_eq!(velomitra::scan_pos(0, 0), None);
 /// ```
 pub fn scan_pos(i: usize, size: usize) -> Option<(usize, usize)> {
-    // SAFETY: as exported says
-    let cell = known(unsafe { exported::velomitra_scan_pos(i, size) })? as usize;
+    let cell = known(exported!(velomitra_scan_pos: i, size))? as usize;
     Some((cell % 65536, cell / 65536))
 }
 
@@ -37,8 +35,7 @@ pub fn scan_pos(i: usize, size: usize) -> Option<(usize, usize)> {
 /// assert_eq!(velomitra::scan_pos_inv(4, 1, 4), None);
 /// ```
 pub fn scan_pos_inv(col: usize, row: usize, size: usize) -> Option<usize> {
-    // SAFETY: as exported says
-    Some(known(unsafe { exported::velomitra_scan_pos_inv(col, row, size) })? as usize)
+    Some(known(exported!(velomitra_scan_pos_inv: col, row, size))? as usize)
 }
 
 /// What an escape level decodes to.
@@ -49,8 +46,7 @@ pub fn scan_pos_inv(col: usize, row: usize, size: usize) -> Option<usize> {
 /// ```
 pub fn dequant_escape(level: i32, qp: i32, bit_depth: u8, lossless: bool) -> Option<u16> {
     let (step, most) = (step(qp)?, most(bit_depth)?);
-    // SAFETY: as exported says
-    Some(known(unsafe { exported::velomitra_dequant_escape(lossless, step, most, level) })? as u16)
+    Some(known(exported!(velomitra_dequant_escape: lossless, step, most, level))? as u16)
 }
 
 /// The escape level of a sample: the one that decodes nearest to it, the lowest of those.
@@ -60,8 +56,7 @@ pub fn dequant_escape(level: i32, qp: i32, bit_depth: u8, lossless: bool) -> Opt
 /// ```
 pub fn quantize_escape(value: u16, qp: i32, bit_depth: u8, lossless: bool) -> Option<u64> {
     let (step, most) = (step(qp)?, most(bit_depth)?);
-    // SAFETY: as exported says
-    known(unsafe { exported::velomitra_quantize_escape(lossless, step, most, value.into()) })
+    known(exported!(velomitra_quantize_escape: lossless, step, most, value.into()))
 }
 
 /// How far two colours may differ and share an entry: 0 when lossless, else half of luma's step, at most 16.
@@ -73,6 +68,5 @@ pub fn quantize_escape(value: u16, qp: i32, bit_depth: u8, lossless: bool) -> Op
 /// ```
 pub fn color_tolerance(cfg: &PaletteConfig) -> Option<u64> {
     let step = step(cfg.qp[0])?;
-    // SAFETY: as exported says
-    known(unsafe { exported::velomitra_tolerance(cfg.lossless, step) })
+    known(exported!(velomitra_tolerance: cfg.lossless, step))
 }

@@ -26,6 +26,27 @@
 //! ```
 #![warn(missing_debug_implementations)]
 
+/// An exported call: `ref list` lends a list, `mut list` one that the call changes, each as its pointer and its own length; other arguments are numbers.
+macro_rules! exported {
+    (@ $name:ident ($($given:tt)*)) => {
+        // SAFETY: each list is borrowed for the call, those that it changes exclusively. The exported calls require nothing, read and write
+        // only within their lists, and keep none.
+        unsafe { $crate::exported::$name($($given)*) }
+    };
+    (@ $name:ident ($($given:tt)*) ref $list:expr, $($rest:tt)*) => {
+        exported!(@ $name ($($given)* $list.as_ptr(), $list.len(),) $($rest)*)
+    };
+    (@ $name:ident ($($given:tt)*) mut $list:expr, $($rest:tt)*) => {
+        exported!(@ $name ($($given)* $list.as_mut_ptr(), $list.len(),) $($rest)*)
+    };
+    (@ $name:ident ($($given:tt)*) $number:expr, $($rest:tt)*) => {
+        exported!(@ $name ($($given)* $number,) $($rest)*)
+    };
+    ($name:ident: $($arguments:tt)*) => {
+        exported!(@ $name () $($arguments)*,)
+    };
+}
+
 mod block;
 mod calls;
 #[cfg(test)]
@@ -36,9 +57,6 @@ mod refusal;
 mod state;
 
 /// The exported calls of the crates, declared from their text (`tools/prototypes rust`). A list is a pointer and a length.
-///
-/// Safe to call with lists that are borrowed for the call, those that it changes exclusively: the calls require nothing, read and write only within
-/// their lists, and keep none.
 #[allow(dead_code)]
 mod exported {
     include!(concat!(env!("OUT_DIR"), "/exported.rs"));

@@ -1,6 +1,6 @@
 //! What is carried from block to block: the palette predictor and the colour counter.
 
-use crate::{PaletteCu, Refusal, exported};
+use crate::{PaletteCu, Refusal};
 use std::fmt;
 
 /// The palette predictor: at most 128 entries.
@@ -103,10 +103,7 @@ impl PalettePredictor {
     /// # Ok::<(), Refusal>(())
     /// ```
     pub fn update(&mut self, cu: &PaletteCu, max_pred: usize) -> Result<(), Refusal> {
-        // SAFETY: as exported says
-        Refusal::of(unsafe {
-            exported::velomitra_update(self.numbers.as_mut_ptr(), self.numbers.len(), cu.numbers.as_ptr(), cu.numbers.len(), max_pred)
-        })
+        Refusal::of(exported!(velomitra_update: mut self.numbers, ref cu.numbers, max_pred))
     }
 }
 
