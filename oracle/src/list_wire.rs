@@ -3,10 +3,10 @@
 use crate::blocks::{at, Input, Lent, Op, BLOCK, FLAGS, INDICES, LEVELS, PALETTE};
 use crate::plan::own;
 use crate::read::{told, Read};
+use crate::report::Random;
 use crate::runs::{self, Run, Ways};
 use crate::second::{self, Cause, Element};
 use crate::write::{agreeing, map, most_index, source_bins, Write};
-use crate::report::Random;
 use std::path::Path;
 use std::{fs, io};
 
@@ -185,7 +185,11 @@ fn blocks(list: &mut List, random: &mut Random) {
     let reused = with(&record(random, own(2, 1, false, &[0; 4])), |r| {
         (r.predictor, r.bins) = (vec![64], vec![0; 65]);
     });
-    list.wrote("64 entries reused, their count not sent", &with(&reused, |r| r.bins.extend(bins("0 0 0 0 0 0 0 0 0 0 0 0 0 0 0 0 0 0 2 4"))), 0);
+    list.wrote(
+        "64 entries reused, their count not sent",
+        &with(&reused, |r| r.bins.extend(bins("0 0 0 0 0 0 0 0 0 0 0 0 0 0 0 0 0 0 2 4"))),
+        0,
+    );
     list.wrote("two entries skipped", &with(&reused, |r| (r.predictor[0], r.bins) = (3, bins("1 1 0 0 0  0  0"))), 0);
     list.wrote("bins after the block", &with(&record(random, full(0, 0, 0)), |r| r.bins.extend([25, 99, 255])), 0);
 }
@@ -216,7 +220,8 @@ fn elements(base: &Record) -> Vec<(Element, usize)> {
         for (place, number) in [(1, 1), (2, 2), (3, 3), (7, 4)] {
             input.config[place] = base.told[number].into();
         }
-        (input.lent.runs, input.lent.predictor, input.lent.bins) = (vec![0; 4 * usize::from(base.room)], base.predictor.clone(), bins.to_vec());
+        (input.lent.runs, input.lent.predictor, input.lent.bins) =
+            (vec![0; 4 * usize::from(base.room)], base.predictor.clone(), bins.to_vec());
         input
     };
     let mut met: Vec<(Element, usize)> = Vec::new();

@@ -35,18 +35,19 @@ extern "C" {
 }
 
 fn port(input: &mut Input) -> u8 {
-    let told = told(input);
+    let config = |place: usize| input.config[place] as u8;
+    let (format, luma, chroma, lossless) = (config(set::FORMAT), config(set::LUMA), config(set::CHROMA), input.config[set::LOSSLESS] == 1);
     let lent = &mut input.lent;
     // SAFETY: as in port.rs
     unsafe {
         velomitra_read_palette_cu(
             lent.bins.as_ptr(),
             lent.bins.len(),
-            told.size,
-            told.format as u8,
-            told.luma_depth as u8,
-            told.chroma_depth as u8,
-            told.lossless,
+            input.source[side::SIZE],
+            format,
+            luma,
+            chroma,
+            lossless,
             lent.predictor.as_ptr(),
             lent.predictor.len(),
             lent.block.as_mut_ptr(),

@@ -102,7 +102,8 @@ fn medians(inputs: &mut [Input], mut source: impl FnMut(&Input, &mut Buffers), p
     for (input, buffers) in inputs.iter_mut().zip(&mut buffers) {
         buffers.analyze(input);
         buffers.assign(input);
-        assert_eq!((Analyze::port(input), Assign::port(input)), (0, 0));
+        plan(input, buffers);
+        assert_eq!([Analyze::port, Assign::port, Plan::port, Write::port].map(|call| call(input)), [0; 4]);
     }
     let made: Vec<(Box<PaletteCu>, Vec<u16>)> = inputs.iter().zip(&buffers).map(|(input, buffers)| (buffers.cu.clone(), input.lent.block.clone())).collect();
     // a block at a time, as assignment made it, each side first as often as the other
@@ -160,33 +161,6 @@ fn write(input: &Input, b: &mut Buffers) {
     black_box(&b.bins.0);
 }
 
-/// Both sides planned, so that writing can be timed by itself; then read, with the bins that were written.
-fn written(inputs: &mut [Input]) -> [(f64, f64); 2] {
-    let both = |input: &Input, b: &mut Buffers| {
-        plan(input, b);
-        write(input, b);
-    };
-    let planned = medians(inputs, both, |input| Plan::port(input).max(Write::port(input)));
-    let bins: Vec<usize> = inputs.iter().map(|input| input.lent.used[0]).collect();
-    let counts: Vec<usize> = inputs.iter().map(|input| input.lent.count[0]).collect();
-    println!("    {} runs and {} bins a block", counts.iter().sum::<usize>() / counts.len(), bins.iter().sum::<usize>() / bins.len());
-    // the runs stay from the planning before
-    let mut first = true;
-    let alone = medians(
-        inputs,
-        |input, b| {
-            if b.runs.is_empty() {
-                plan(input, b);
-            }
-            write(input, b)
-        },
-        Write::port,
-    );
-    first &= alone.0 > 0.0;
-    assert!(first);
-    [planned, alone]
-}
-
 fn line(what: &str, (theirs, ours): (f64, f64)) {
     println!("  {what:24} source 000 {theirs:7.2} µs, port {ours:7.2} µs, ratio {:.2}", ours / theirs);
 }
@@ -214,5 +188,21 @@ pub fn measure() {
         for (what, clipped, transposed) in [("reconstruction", false, false), ("clipped", true, false), ("transposed", false, true), ("clipped, transposed", true, true)] {
             line(what, recon::times(&inputs, ROUNDS, clipped, transposed));
         }
+        line("writing", medians(&mut inputs, write, Write::port));
+        let all = medians(
+            &mut inputs,
+            |input, b| {
+                b.analyze(input);
+                b.assign(input);
+                plan(input, b);
+                write(input, b);
+            },
+            |input| [Analyze::port, Assign::port, Plan::port, Write::port].into_iter().map(|call| call(input)).max().unwrap(),
+        );
+        line("analysis to writing", all);
+        let (_, reading) = medians(&mut inputs, |_, _| (), Read::port);
+        println!("  {:24} port {reading:7.2} µs", "reading");
+        let mean = |number: fn(&Input) -> usize| inputs.iter().map(number).sum::<usize>() / inputs.len();
+        println!("  {} runs and {} bins a block", mean(|input| input.lent.count[0]), mean(|input| input.lent.used[0]));
     }
 }

@@ -10,6 +10,7 @@ use crate::refusals::{self, refused, Edit};
 use crate::report::{Random, Report};
 use crate::runs::{self, Map, Run, Ways};
 use crate::second::above;
+use std::cell::RefCell;
 
 extern "C" {
     fn velomitra_write_palette_cu(
@@ -401,7 +402,16 @@ pub fn compare(report: &mut Report) {
     assert_eq!(most.lent.bins.len(), LONGEST);
     report.compare("write-longest", [Call::<Write>::new(most)]);
     let mut random = report.random("write-broken");
-    let cases = (0..report.blocks as u64).map(move |k| Call::<Write>::new(broken(&mut random, k % runs::BREAKS)));
+    let due = RefCell::new([0; 16]);
+    let cases = (0..report.blocks as u64).map(|k| {
+        let case = broken(&mut random, k % runs::BREAKS);
+        due.borrow_mut()[usize::from(Write::source(&mut case.clone()))] += 1;
+        Call::<Write>::new(case)
+    });
     report.compare("write-broken", cases);
+    let (all, broken) = (due.borrow().iter().sum::<usize>(), due.borrow()[8]);
+    if all > 0 {
+        println!("broken run lists: {broken} refused by 8, {} that still keep the rules", all - broken);
+    }
     report.compare("write-refusals", refused::<Write>(edits()).map(lent));
 }

@@ -21,7 +21,7 @@ Named (Refused k q) = 1 ≤ k
 
 fair-named : {A : Type 0} (l : List ℕ) (g : Answer A) → Fair l g → Named g
 fair-named l (Value a q) h = tt
-fair-named l (Refused k q) h = omega (arith, h .1 .1 .1 .0)
+fair-named l (Refused k q) h = omega (arith, h .3)
 
 module _ (l : List ℕ) where
   pub read-named : (size format luma chroma : ℕ) (lossless : Bool) (p : PalettePredictor) (room : ℕ) → Named (readAnswer size format luma chroma lossless p room l)
