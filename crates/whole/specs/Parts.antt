@@ -4,11 +4,12 @@ use mathlib.Core.Bool.{Bool, true, false, not, _&&_, Bool·beq}
 use mathlib.Core.List.{List, [], _∷_}
 use Prim.Native.Nat.{ℕ, _+_, _*_, _-_, _≤_, _<_, min}
 use native.Mathlib.Omega.{arith}
-use borrow.Author.Tests.{leb-true, le-leb, eq-eqb, ne-eqb, eqb-true, eqb-false}
+use mathlib.Core.Logic.{⊎-elim}
+use borrow.Author.Tests.{leb-true, le-leb, lt-leb, eq-eqb, ne-eqb, eqb-true, eqb-false, not-true}
 use lib.Dec.{eqb, leb}
 use lib.ListN.{getD, take}
-use Rattle.base.specs.Pick.{pick, either}
-use Rattle.base.specs.Tests.{every, any, both, upTo, ands, ands-every, every-append, every-swap, and-pick, pick-and, up-to-both, up-to-same, pick-test}
+use Rattle.base.specs.Pick.{pick, either, lt-or-le}
+use Rattle.base.specs.Tests.{every, any, both, upTo, ands, ands-every, every-append, every-swap, and-pick, pick-and, up-to-both, up-to-same, up-to-at, at-up-to, pick-test}
 use Rattle.h265.specs.Reuse.{trues}
 use Rattle.h265.specs.Strings.{bit}
 use Rattle.model.specs.declared.Levels.{Levels}
@@ -72,6 +73,41 @@ module _ (cu : PaletteCu) (i : ℕ) where
   pub escape-none : (getD (cu .indices) i 0 ≡ cu .«palette_size» → ⊥) → escapeHolds cu i ≡ true
   unfolding escapeHolds
   escape-none e = rw (ne-eqb _ _ e)
+
+-- 16 cells from i on are among the first n, and none has index p
+unfoldable pub quietFrom : List ℕ → ℕ → ℕ → ℕ → Bool
+quietFrom l i n p = every (leb (i + 16) n ∷ upTo 16 (λ j. not (eqb (getD l (i + j) 0) p)) ∷ [])
+
+module _ (l : List ℕ) (i n p : ℕ) where
+  pub quiet-late : n < i + 16 → false ≡ quietFrom l i n p
+  unfolding quietFrom
+  quiet-late h = rw (lt-leb (i + 16) n h)
+
+  pub quiet-is : i + 16 ≤ n → upTo 16 (λ j. not (eqb (getD l (i + j) 0) p)) ≡ quietFrom l i n p
+  unfolding quietFrom
+  quiet-is h = rw (le-leb (i + 16) n h) (sym (pick-test (upTo 16 (λ j. not (eqb (getD l (i + j) 0) p)))))
+
+  pub quiet-ends : quietFrom l i n p ≡ true → i + 16 ≤ n
+  unfolding quietFrom
+  quiet-ends e = leb-true (i + 16) n (both (leb (i + 16) n) _ e .0)
+
+  pub quiet-none : quietFrom l i n p ≡ true → (k : ℕ) → i ≤ k → k < i + 16 → getD l k 0 ≡ p → ⊥
+  unfolding quietFrom
+  quiet-none e k h m q =
+      let b = both (leb (i + 16) n) _ e in
+      let t = both (upTo 16 (λ j. not (eqb (getD l (i + j) 0) p))) true (b .1) in
+      let j : k - i < 16 = omega arith in
+      let z : i + (k - i) ≡ k = omega arith in
+      eqb-false (getD l k 0) p (rw z at (not-true (eqb (getD l (i + (k - i)) 0) p) (up-to-at (λ j. not (eqb (getD l (i + j) 0) p)) 16 (t .0) (k - i) j))) q
+
+-- so the escapes of these cells hold
+pub quiet-on : (cu : PaletteCu) (i n p : ℕ) → p ≡ cu .«palette_size» → quietFrom (cu .indices) i n p ≡ true → upTo i (escapeHolds cu) ≡ true → upTo (i + 16) (escapeHolds cu) ≡ true
+quiet-on cu i n p s e h =
+    at-up-to (escapeHolds cu) (i + 16)
+    (λ k m.
+    ⊎-elim (λ (z : k < i). up-to-at (escapeHolds cu) i h k z)
+    (λ (z : i ≤ k). escape-none cu k (λ q. quiet-none (cu .indices) i n p e k z m (q ∙ sym s)))
+    (lt-or-le k i))
 
 module _ (cu : PaletteCu) (n m : ℕ) (is : m ≡ cu .«palette_size» + bit (cu .«escape_present») - 1) where
   pub cells-two : (a b : Bool) → a ≡ upTo n (λ i. leb (getD (cu .indices) i 0) m) → b ≡ upTo n (escapeHolds cu) → a && b ≡ upTo n (cellHolds cu)

@@ -8,7 +8,7 @@ ghost use Rattle.h265.specs.Reuse.{trues};
 ghost use Rattle.h265.specs.Strings.{bit};
 ghost use Rattle.model.specs.Domain.{colorIn, noColor};
 ghost use Rattle.model.specs.Whole.{blockSizeIn, matches, cellHolds, holds, assignable};
-ghost use Rattle.whole.specs.Parts.{sizeHolds, formatAre, emptyIs, frameHolds, levelCap, chromaCap, Within, lumaCapOf, chromaCapOf, escapeHolds};
+ghost use Rattle.whole.specs.Parts.{sizeHolds, formatAre, emptyIs, frameHolds, levelCap, chromaCap, Within, lumaCapOf, chromaCapOf, escapeHolds, quietFrom};
 use domain::color_in;
 use domain::depth_in;
 use domain::even_in;
@@ -149,14 +149,36 @@ fn within(ym: u16, cm: u16, l: Levels) -> bool
     (l.y <= ym) & (l.cb <= cm) & (l.cr <= cm)
 }
 
+// Whether 16 cells from i on are among the first n, and none has index p.
+fn quiet(indices: &[u8; 1024], i: usize, n: usize, p: u8) -> bool
+    requires { ⌜ (i ≤ n) × (n ≤ 1024) ⌝ }
+    ensures { λ r. ⌜ r ≡ quietFrom (now (indices .entry)) i n p ⌝ }
+{
+    if n < i + 16 {
+        return false;
+    }
+    let mut ok = true;
+    let mut j: usize = 0;
+    while j < 16 {
+        let x = indices[i + j];
+        ok = ok & (x != p);
+        j += 1;
+    }
+    ok
+}
+
 // Whether the levels of each escape cell are in range.
 fn escapes_hold(cu: PaletteCu, n: usize, ym: u16, cm: u16) -> bool
-    requires { ⌜ (n ≤ 1024) × (ym ≡ lumaCapOf cu) × (cm ≡ chromaCapOf cu) ⌝ }
+    requires { ⌜ (n ≤ 1024) × (ym ≡ lumaCapOf cu) × (cm ≡ chromaCapOf cu) × (cu .«palette_size» ≤ 64) ⌝ }
     ensures { λ r. ⌜ r ≡ upTo n (escapeHolds cu) ⌝ }
 {
+    let x = cu.indices;
+    let p = cu.palette_size as u8;
     let mut i: usize = 0;
     while i < n {
-        if cu.indices[i] as usize == cu.palette_size {
+        if quiet(&x, i, n, p) {
+            i += 16;
+        } else if cu.indices[i] as usize == cu.palette_size {
             let l = cu.escapes[i];
             if within(ym, cm, l) {
                 i += 1;

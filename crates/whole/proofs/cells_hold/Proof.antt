@@ -41,7 +41,7 @@ escapes-hold-requires : tie.Need-escapes-hold-requires
 escapes-hold-requires c κs =
     let s = c .before .before .before .before .before .before .before .before .args .cu .size in
     let q : s * s ≤ 32 * 32 = mul-le-mul (c .before .before .before .before .before .before .before .before .pre .0) (c .before .before .before .before .before .before .before .before .pre .0) in
-    (omega arith, c .before .level-cap .ensures, c .chroma-cap .ensures)
+    (omega arith, c .before .level-cap .ensures, c .chroma-cap .ensures, c .before .before .before .before .before .before .before .before .pre .1)
 
 returns : tie.Need-returns
 returns c = cells-two (c .before .before .before .before .before .before .before .before .before .args .cu) _ _ (c .before .before .before .before .before .before .before .greatest .ensures) _ _ (c .before .before .before .before .before .indices-hold .ensures) (c .escapes-hold .ensures)
