@@ -13,6 +13,7 @@ mod coverage;
 mod draw;
 mod list;
 mod list_blocks;
+mod list_wire;
 mod plan;
 mod port;
 mod quant;
@@ -68,7 +69,8 @@ fn main() -> ExitCode {
     print!("{}", include_str!(concat!(env!("OUT_DIR"), "/difference.txt")));
     if list {
         let crates = Path::new(concat!(env!("CARGO_MANIFEST_DIR"), "/../crates"));
-        return match list::write(&crates.join("answers")).and_then(|()| list_blocks::write(&crates.join("answers_block"))) {
+        let blocks = || list_blocks::write(&crates.join("answers_block"));
+        return match list::write(&crates.join("answers")).and_then(|()| blocks()).and_then(|()| list_wire::write(&crates.join("answers_wire"))) {
             Ok(()) => ExitCode::SUCCESS,
             Err(why) => {
                 eprintln!("the list is not written: {why}");

@@ -2,16 +2,20 @@
 
 use crate::analysis::Analyze;
 use crate::assign::{Assign, Figure};
+use crate::bins::Bins;
 use crate::blocks::{Input, Lent, Op, MOST_ENTRIES};
 use crate::cabac::contexts::PaletteContexts;
 use crate::palette::{
-    analyze_palette, assign_indices, harness, plan_runs, smooth_indices, ColorIndex, PaletteConfig, PaletteCu, PalettePredictor, PaletteRateModel, PaletteRun,
+    analyze_palette, assign_indices, harness, plan_runs, smooth_indices, write_palette_cu, ColorIndex, PaletteConfig, PaletteCu, PalettePredictor,
+    PaletteRateModel, PaletteRun,
 };
 use crate::plan::Plan;
+use crate::read::Read;
 use crate::recon;
 use crate::report::Random;
 use crate::smooth::Smooth;
 use crate::update::Update;
+use crate::write::Write;
 use std::hint::black_box;
 use std::time::Instant;
 
@@ -19,6 +23,8 @@ const SIZE: usize = 32;
 /// Blocks across and down the picture.
 const ACROSS: usize = 4;
 const ROUNDS: usize = 250;
+/// Room for a block's bins, and more.
+const ROOM: usize = 8192;
 
 /// A picture of flat patches, with a track one cell wide through them.
 fn map(colors: usize, format: i32) -> Vec<Input> {
@@ -40,6 +46,7 @@ fn map(colors: usize, format: i32) -> Vec<Input> {
             let mut lent = Lent::default();
             lent.set_entries(&known);
             (lent.runs, lent.count, lent.total) = (vec![0; 4 * SIZE * SIZE], vec![0], vec![0]);
+            (lent.bins, lent.used, lent.place) = (vec![0; ROOM], vec![0], vec![0]);
             Input {
                 config: vec![3, format, 8, 8, 22, 22, 22, 0],
                 source: vec![side, side, cw, ch, k % ACROSS * SIZE, k / ACROSS * SIZE, SIZE],
@@ -63,6 +70,7 @@ struct Buffers {
     cu: Box<PaletteCu>,
     model: PaletteRateModel,
     runs: Vec<PaletteRun>,
+    bins: Bins,
 }
 
 impl Buffers {
@@ -74,6 +82,7 @@ impl Buffers {
             cu: PaletteCu::new(),
             model: harness::blocks::model(&input.rates),
             runs: Vec::with_capacity(SIZE * SIZE),
+            bins: Bins(Vec::with_capacity(ROOM)),
             config,
         }
     }
@@ -142,6 +151,40 @@ fn smooth(input: &Input, b: &mut Buffers) {
 
 fn plan(_: &Input, b: &mut Buffers) {
     black_box(plan_runs(&b.cu, &b.model, &mut b.runs));
+}
+
+/// Source 000's writer onto a list of bytes, as the port's is.
+fn write(input: &Input, b: &mut Buffers) {
+    b.bins.0.clear();
+    write_palette_cu(&mut b.bins, &b.cu, &b.config, input.source[4], input.source[5], &b.runs);
+    black_box(&b.bins.0);
+}
+
+/// Both sides planned, so that writing can be timed by itself; then read, with the bins that were written.
+fn written(inputs: &mut [Input]) -> [(f64, f64); 2] {
+    let both = |input: &Input, b: &mut Buffers| {
+        plan(input, b);
+        write(input, b);
+    };
+    let planned = medians(inputs, both, |input| Plan::port(input).max(Write::port(input)));
+    let bins: Vec<usize> = inputs.iter().map(|input| input.lent.used[0]).collect();
+    let counts: Vec<usize> = inputs.iter().map(|input| input.lent.count[0]).collect();
+    println!("    {} runs and {} bins a block", counts.iter().sum::<usize>() / counts.len(), bins.iter().sum::<usize>() / bins.len());
+    // the runs stay from the planning before
+    let mut first = true;
+    let alone = medians(
+        inputs,
+        |input, b| {
+            if b.runs.is_empty() {
+                plan(input, b);
+            }
+            write(input, b)
+        },
+        Write::port,
+    );
+    first &= alone.0 > 0.0;
+    assert!(first);
+    [planned, alone]
 }
 
 fn line(what: &str, (theirs, ours): (f64, f64)) {

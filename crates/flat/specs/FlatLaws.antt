@@ -8,10 +8,10 @@ use native.Mathlib.Omega.{arith}
 use borrow.Author.Tests.{ltb-true, ltb-false}
 use lib.Dec.{eqb, T}
 use lib.IntN.{ℤ, pos, negsuc, natAbs}
-use lib.ListN.{length, getD, replicate, length-replicate, length-append, length-map, List·getD-append, List·getD-map}
+use lib.ListN.{length, getD, set, replicate, length-replicate, length-append, length-map, List·getD-append, List·getD-map}
 use lib.Seq.{getD-append-add, ext-getD}
 use lib.Signed.{ltZ, nonNeg}
-use Rattle.base.specs.Cells.{laid, laid-in, laid-length}
+use Rattle.base.specs.Cells.{laid, laid-in, laid-length, laid-on, laid-same}
 use Rattle.base.specs.Pick.{true-false}
 use Rattle.h265.specs.Strings.{bit}
 use Rattle.model.specs.declared.Color.{Color}
@@ -31,6 +31,22 @@ pub each-by : {A : Type 0} (a : A) (n : ℕ) (f : ℕ → A) (xs : List A) → l
 each-by a n f xs e h =
     let k : length (each a n f) ≡ n = laid-length f (replicate n a) 0 n ∙ length-replicate n a in
     ext-getD a (each a n f) xs (k ∙ sym e) (λ i m. let l : i < n = omega arith in each-at a a n f i l ∙ h i l)
+
+-- one turn of a loop that lays four places
+pub laid-four : {A : Type 0} (f : ℕ → A) (l out : List A) (k : ℕ) (a b c d : A) → out ≡ laid f l 0 (4 * k) → a ≡ f (4 * k) → b ≡ f (4 * k + 1) → c ≡ f (4 * k + 2) → d ≡ f (4 * k + 3)
+    → set (set (set (set out (4 * k) a) (4 * k + 1) b) (4 * k + 2) c) (4 * k + 3) d ≡ laid f l 0 (4 * (k + 1))
+laid-four f l out k a b c d e ea eb ec ed =
+    let i = 4 * k in
+    let z₂ : i + 1 + 1 ≡ i + 2 = omega arith in
+    let z₃ : i + 2 + 1 ≡ i + 3 = omega arith in
+    let z₄ : i + 3 + 1 ≡ 4 * (k + 1) = omega arith in
+    let o₁ = set out i a in
+    let o₂ = set o₁ (i + 1) b in
+    let o₃ = set o₂ (i + 2) c in
+    let e₁ : o₁ ≡ laid f l 0 (i + 1) = laid-on f l out i a e ea in
+    let e₂ : o₂ ≡ laid f l 0 (i + 2) = laid-on f l o₁ (i + 1) b e₁ eb ∙ ap (laid f l 0) z₂ in
+    let e₃ : o₃ ≡ laid f l 0 (i + 3) = laid-on f l o₂ (i + 2) c e₂ ec ∙ ap (laid f l 0) z₃ in
+    laid-on f l o₃ (i + 3) d e₃ ed ∙ ap (laid f l 0) z₄
 
 -- ---- the block from its parts
 
@@ -298,3 +314,46 @@ predictor-flat p h e =
     rw (← append-nil (colorsOf (p .entries))) (skip-color (s ∷ []) (colorsOf (p .entries) ++ []) 1 (3 * i) refl ∙ colors-at (p .entries) [] i (omega arith)))
     in
     rw (b, z)
+
+-- ---- a list that is too short, with zeros after it
+
+pub each-same : {A : Type 0} (a : A) (n : ℕ) (f g : ℕ → A) → ((i : ℕ) → i < n → f i ≡ g i) → each a n f ≡ each a n g
+each-same a n f g h = laid-same f g (replicate n a) 0 n (λ j m. h (0 + j) (omega arith))
+
+module _ (l : List ℕ) where
+  filled-at : (i : ℕ) → i < 4432 → number (each 0 4432 (number l)) i ≡ number l i
+  filled-at i h = each-at 0 0 4432 (number l) i h
+
+  filled-color : (i : ℕ) → i < 64 → colorAt (each 0 4432 (number l)) (16 + 3 * i) ≡ colorAt l (16 + 3 * i)
+  unfolding colorAt
+  filled-color i h = rw (filled-at (16 + 3 * i) (omega arith), filled-at (16 + 3 * i + 1) (omega arith), filled-at (16 + 3 * i + 2) (omega arith))
+
+  filled-levels : (i : ℕ) → i < 1024 → levelsAt (each 0 4432 (number l)) (1360 + 3 * i) ≡ levelsAt l (1360 + 3 * i)
+  unfolding levelsAt
+  filled-levels i h = rw (filled-at (1360 + 3 * i) (omega arith), filled-at (1360 + 3 * i + 1) (omega arith), filled-at (1360 + 3 * i + 2) (omega arith))
+
+  pub filled-block : blockOf (each 0 4432 (number l)) ≡ blockOf l
+  unfolding blockOf longAt
+  filled-block =
+      let z = each 0 4432 (number l) in
+      rw (
+        each-same noColor 64 (λ i. colorAt z (16 + 3 * i)) (λ i. colorAt l (16 + 3 * i)) filled-color,
+        each-same false 128 (λ i. eqb (number z (208 + i)) 1) (λ i. eqb (number l (208 + i)) 1) (λ i h. ap (λ (x : ℕ). eqb x 1) (filled-at (208 + i) (omega arith))),
+        each-same 0 1024 (λ i. byte (number z (336 + i))) (λ i. byte (number l (336 + i))) (λ i h. ap byte (filled-at (336 + i) (omega arith))),
+        each-same noLevels 1024 (λ i. levelsAt z (1360 + 3 * i)) (λ i. levelsAt l (1360 + 3 * i)) filled-levels,
+        filled-at 0 (omega arith),
+        filled-at 1 (omega arith),
+        filled-at 2 (omega arith),
+        filled-at 3 (omega arith),
+        filled-at 4 (omega arith),
+        filled-at 5 (omega arith),
+        filled-at 6 (omega arith),
+        filled-at 7 (omega arith),
+        filled-at 8 (omega arith),
+        filled-at 9 (omega arith),
+        filled-at 10 (omega arith),
+        filled-at 11 (omega arith),
+        filled-at (11 + 1) (omega arith),
+        filled-at (11 + 2) (omega arith),
+        filled-at (11 + 3) (omega arith),
+      )

@@ -9,7 +9,7 @@ ghost use mathlib.Core.Bool.{false};
 ghost use mathlib.Core.List.{[], _∷_, map};
 ghost use Prim.Native.Nat.{_+_, _*_, _≤_, min};
 ghost use lib.Dec.{eqb};
-ghost use lib.ListN.{getD};
+ghost use lib.ListN.{length, getD};
 ghost use lib.Seq.{sets};
 ghost use Rattle.base.specs.Laid.{Laid};
 ghost use Rattle.h265.specs.Strings.{bit};
@@ -54,25 +54,39 @@ fn color_at(list: &[u16], p: usize) -> Color
     Color { y, cb, cr }
 }
 
-// The levels at a place.
-fn levels_at(list: &[u16], p: usize) -> Levels
-    requires { ⌜ p ≤ 4432 ⌝ }
+// The colour at a place that is there.
+fn color_in(list: &[u16], p: usize) -> Color
+    requires { ⌜ p + 3 ≤ length (now list) ⌝ }
+    ensures { λ r. ⌜ r ≡ colorAt (now (list .entry)) p ⌝ }
+{
+    Color {
+        y: list[p],
+        cb: list[p + 1],
+        cr: list[p + 2],
+    }
+}
+
+// The levels at a place that is there.
+fn levels_in(list: &[u16], p: usize) -> Levels
+    requires { ⌜ p + 3 ≤ length (now list) ⌝ }
     ensures { λ r. ⌜ r ≡ levelsAt (now (list .entry)) p ⌝ }
 {
-    let y = number(list, p);
-    let cb = number(list, p + 1);
-    let cr = number(list, p + 2);
-    Levels { y, cb, cr }
+    Levels {
+        y: list[p],
+        cb: list[p + 1],
+        cr: list[p + 2],
+    }
 }
 
 // A block's palette.
 fn palette_of(list: &[u16]) -> [Color; 64]
+    requires { ⌜ 4432 ≤ length (now list) ⌝ }
     ensures { λ r. ⌜ r ≡ each noColor 64 (λ i. colorAt (now (list .entry)) (16 + 3 * i)) ⌝ }
 {
     let mut out = [Color { y: 0, cb: 0, cr: 0 }; 64];
     let mut i: usize = 0;
     while i < 64 {
-        let c = color_at(list, 16 + 3 * i);
+        let c = color_in(list, 16 + 3 * i);
         out[i] = c;
         i += 1;
     }
@@ -81,12 +95,13 @@ fn palette_of(list: &[u16]) -> [Color; 64]
 
 // A block's flags.
 fn flags_of(list: &[u16]) -> [bool; 128]
+    requires { ⌜ 4432 ≤ length (now list) ⌝ }
     ensures { λ r. ⌜ r ≡ each false 128 (λ i. eqb (number (now (list .entry)) (208 + i)) 1) ⌝ }
 {
     let mut out = [false; 128];
     let mut i: usize = 0;
     while i < 128 {
-        out[i] = number(list, 208 + i) == 1;
+        out[i] = list[208 + i] == 1;
         i += 1;
     }
     out
@@ -94,27 +109,36 @@ fn flags_of(list: &[u16]) -> [bool; 128]
 
 // A block's indices.
 fn indices_of(list: &[u16]) -> [u8; 1024]
+    requires { ⌜ 4432 ≤ length (now list) ⌝ }
     ensures { λ r. ⌜ r ≡ each 0 1024 (λ i. byte (number (now (list .entry)) (336 + i))) ⌝ }
 {
     let mut out: [u8; 1024] = [0; 1024];
     let mut i: usize = 0;
     while i < 1024 {
-        out[i] = byte(number(list, 336 + i));
+        out[i] = byte(list[336 + i]);
         i += 1;
     }
     out
 }
 
-// A block's levels.
+// A block's levels, four cells at a turn.
 fn escapes_of(list: &[u16]) -> [Levels; 1024]
+    requires { ⌜ 4432 ≤ length (now list) ⌝ }
     ensures { λ r. ⌜ r ≡ each noLevels 1024 (λ i. levelsAt (now (list .entry)) (1360 + 3 * i)) ⌝ }
 {
     let mut out = [Levels { y: 0, cb: 0, cr: 0 }; 1024];
-    let mut i: usize = 0;
-    while i < 1024 {
-        let l = levels_at(list, 1360 + 3 * i);
-        out[i] = l;
-        i += 1;
+    let mut k: usize = 0;
+    while k < 256 {
+        let i = 4 * k;
+        let a = levels_in(list, 1360 + 3 * i);
+        let b = levels_in(list, 1360 + 3 * (i + 1));
+        let c = levels_in(list, 1360 + 3 * (i + 2));
+        let d = levels_in(list, 1360 + 3 * (i + 3));
+        out[i] = a;
+        out[i + 1] = b;
+        out[i + 2] = c;
+        out[i + 3] = d;
+        k += 1;
     }
     out
 }
@@ -139,8 +163,9 @@ fn long(a: u16, b: u16, c: u16, d: u16) -> u64
     a as u64 + 65536 * (b as u64) + 4294967296 * (c as u64) + 281474976710656 * (d as u64)
 }
 
-// The block that a list of numbers is.
-pub fn block_of(list: &[u16]) -> PaletteCu
+// The block that a list of all its numbers is.
+fn whole_block(list: &[u16]) -> PaletteCu
+    requires { ⌜ 4432 ≤ length (now list) ⌝ }
     ensures { λ r. ⌜ r ≡ blockOf (now (list .entry)) ⌝ }
 {
     let h = head_of(list);
@@ -167,6 +192,30 @@ pub fn block_of(list: &[u16]) -> PaletteCu
         sse: long(h[11], h[12], h[13], h[14]),
         tolerance,
     }
+}
+
+// The first 4432 numbers, 0 past the end.
+fn padded(list: &[u16]) -> [u16; 4432]
+    ensures { λ r. ⌜ r ≡ each 0 4432 (number (now (list .entry))) ⌝ }
+{
+    let mut out: [u16; 4432] = [0; 4432];
+    let mut i: usize = 0;
+    while i < 4432 {
+        out[i] = number(list, i);
+        i += 1;
+    }
+    out
+}
+
+// The block that a list of numbers is.
+pub fn block_of(list: &[u16]) -> PaletteCu
+    ensures { λ r. ⌜ r ≡ blockOf (now (list .entry)) ⌝ }
+{
+    if 4432 <= list.len() {
+        return whole_block(list);
+    }
+    let all = padded(list);
+    whole_block(&all)
 }
 
 // A predictor's entries.

@@ -1,4 +1,4 @@
--- Where the readers' refusals stand: for 10 the list's length, for 11 a bin of the list, and no place past the end.
+-- The readers' refusals: 10, 11 and 12 alone; and where they stand: for 10 the list's length, for 11 a bin of the list, and no place past the end.
 use mathlib.Core.Path.{_≡_, refl, ap, sym, _∙_}
 use mathlib.Core.Bool.{Bool, true, false}
 use mathlib.Core.List.{List, [], _∷_}
@@ -15,11 +15,11 @@ use Rattle.h265.specs.Parse.{binAt, markerAt, bitsFrom, bitsAt, onesFrom
 
 abbrev pub Fair : {A : Type 0} → List ℕ → Answer A → Type 0
 Fair l (Value a q) = q ≤ length l
-Fair l (Refused k q) = (k ≡ 10 → q ≡ length l) × (k ≡ 11 → q < length l) × (q ≤ length l)
+Fair l (Refused k q) = (k ≡ 10 → q ≡ length l) × (k ≡ 11 → q < length l) × (q ≤ length l) × (10 ≤ k) × (k ≤ 12)
 
 module _ (l : List ℕ) where
-  pub fair-12 : (q : ℕ) → q ≤ length l → (_≡_ {A = ℕ} 12 10 → q ≡ length l) × (_≡_ {A = ℕ} 12 11 → q < length l) × (q ≤ length l)
-  fair-12 q h = ((λ e. absurd (omega arith)), (λ e. absurd (omega arith)), h)
+  pub fair-12 : (q : ℕ) → q ≤ length l → (_≡_ {A = ℕ} 12 10 → q ≡ length l) × (_≡_ {A = ℕ} 12 11 → q < length l) × (q ≤ length l) × (10 ≤ 12) × (12 ≤ 12)
+  fair-12 q h = ((λ e. absurd (omega arith)), (λ e. absurd (omega arith)), h, omega arith, omega arith)
 
   pub fair-onward : {A B : Type 0} (g : Answer A) (f : A → ℕ → Answer B) → Fair l g → ((a : A) (q : ℕ) → q ≤ length l → Fair l (f a q)) → Fair l (onward g f)
   fair-onward (Value a q) f h k = k a q h
@@ -35,10 +35,10 @@ module _ (l : List ℕ) where
       either (ltb p (length l))
       (λ t.
       let o : p < length l = ltb-true p (length l) t in
-      rw t (fair-pick (eqb (getD l p 0) (c * 2 + 1)) (Value true (p + 1)) _ (omega arith) (fair-pick (eqb (getD l p 0) (c * 2)) (Value false (p + 1)) (Refused 11 p) (omega arith) ((λ e. absurd (omega arith)), (λ e. o), h))))
+      rw t (fair-pick (eqb (getD l p 0) (c * 2 + 1)) (Value true (p + 1)) _ (omega arith) (fair-pick (eqb (getD l p 0) (c * 2)) (Value false (p + 1)) (Refused 11 p) (omega arith) ((λ e. absurd (omega arith)), (λ e. o), h, omega arith, omega arith))))
       (λ t.
       let o : length l ≤ p = ltb-false p (length l) t in
-      rw t ((λ e. omega arith), (λ e. absurd (omega arith)), h))
+      rw t ((λ e. omega arith), (λ e. absurd (omega arith)), h, omega arith, omega arith))
 
   pub fair-marker : (p : ℕ) → p ≤ length l → Fair l (markerAt l p)
   unfolding markerAt
@@ -46,10 +46,10 @@ module _ (l : List ℕ) where
       either (ltb p (length l))
       (λ t.
       let o : p < length l = ltb-true p (length l) t in
-      rw t (fair-pick (eqb (getD l p 0) 22) (Value tt (p + 1)) (Refused 11 p) (omega arith) ((λ e. absurd (omega arith)), (λ e. o), h)))
+      rw t (fair-pick (eqb (getD l p 0) 22) (Value tt (p + 1)) (Refused 11 p) (omega arith) ((λ e. absurd (omega arith)), (λ e. o), h, omega arith, omega arith)))
       (λ t.
       let o : length l ≤ p = ltb-false p (length l) t in
-      rw t ((λ e. omega arith), (λ e. absurd (omega arith)), h))
+      rw t ((λ e. omega arith), (λ e. absurd (omega arith)), h, omega arith, omega arith))
 
   pub fair-bits : (n a p : ℕ) → p ≤ length l → Fair l (bitsFrom n a l p)
   unfolding bitsFrom

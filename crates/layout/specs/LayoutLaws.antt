@@ -1,26 +1,34 @@
 -- What the layout's test leaves, and that the array holds the entries.
 use mathlib.Core.Path.{_≡_, refl, ap, sym, _∙_}
 use mathlib.Core.Bool.{true}
-use mathlib.Core.List.{List, [], _∷_}
+use mathlib.Core.List.{List}
 use Prim.Native.Nat.{ℕ, zero, suc, _+_, _*_, _≤_, _<_}
 use native.Mathlib.Omega.{arith}
 use lib.Dec.{leb, eqb}
 use lib.ListN.{length, getD, replicate, length-replicate}
-use borrow.Author.Tests.{leb-true, eqb-true}
-use Rattle.base.specs.Cells.{laid, laid-in, laid-length}
-use Rattle.base.specs.Tests.{every, both}
+use borrow.Author.Tests.{eqb-true}
+use Rattle.base.specs.Cells.{laid-in, laid-length}
+use Rattle.base.specs.Tests.{both}
 use Rattle.model.specs.Domain.{noColor}
 use Rattle.layout.specs.Layout.{losslessOf, countOf, entriesFrom, binCountOf, binsFrom, laidOut, entryAt, entriesAt, predictorOf, arrayOf}
 
--- the bins stand within the file
-pub bins-within : (l : List ℕ) → laidOut l ≡ true → binsFrom l ≤ length l
+-- the nine numbers stand within the file, and so do the bins
+within : (l : List ℕ) → laidOut l ≡ true → (36 ≤ length l) × (binsFrom l ≤ length l)
 unfolding laidOut
-bins-within l h =
+within l h =
     let a = both (leb (length l) 65536) _ h in
     let b = both (leb (losslessOf l) 1) _ (a .1) in
     let c = both (eqb (entriesFrom l) 36) _ (b .1) in
     let d = both (eqb (binsFrom l) (36 + 6 * countOf l)) _ (c .1) in
-    omega (arith, eqb-true (length l) (binsFrom l + binCountOf l) (both (eqb (length l) (binsFrom l + binCountOf l)) true (d .1) .0))
+    let e = eqb-true (binsFrom l) (36 + 6 * countOf l) (d .0) in
+    let n = eqb-true (length l) (binsFrom l + binCountOf l) (both (eqb (length l) (binsFrom l + binCountOf l)) true (d .1) .0) in
+    (omega arith, omega arith)
+
+pub header-within : (l : List ℕ) → laidOut l ≡ true → 36 ≤ length l
+header-within l h = within l h .0
+
+pub bins-within : (l : List ℕ) → laidOut l ≡ true → binsFrom l ≤ length l
+bins-within l h = within l h .1
 
 -- ---- entries
 

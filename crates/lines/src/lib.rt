@@ -1,6 +1,6 @@
 // The lines of a listing, laid in a lent list of bytes. What would lie past the list's end is counted and not stored.
 ghost use mathlib.Core.List.{_++_};
-ghost use Prim.Native.Nat.{_+_, _*_, _^_, _≤_, _<_};
+ghost use Prim.Native.Nat.{_+_, _^_, _≤_, _<_};
 ghost use lib.ListN.{length, take};
 ghost use Rattle.base.specs.Laid.{Laid};
 ghost use Rattle.digits.specs.Decimal.{decimal};

@@ -1,3 +1,4 @@
 pub mod Listing
 pub mod Printed
+pub mod Listed
 pub mod Figures

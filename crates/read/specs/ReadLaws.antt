@@ -1,24 +1,24 @@
--- What the reader's answer does not depend on: numbers too large for a byte, and a predictor's slots past its size.
+-- What the reader's answer does not depend on, numbers too large for a byte and a predictor's slots past its size; and what is so where it takes a block.
 use mathlib.Core.Path.{_≡_, refl, ap, sym, _∙_}
 use mathlib.Core.Bool.{Bool, true, false}
-use mathlib.Core.List.{List, [], _∷_}
+use mathlib.Core.List.{List}
 use mathlib.Core.Logic.{⊎-elim}
-use Prim.Native.Nat.{ℕ, _+_, _≤_, _<_, min}
-use native.Mathlib.Nat.{min-eq-left, min-eq-right}
+use Prim.Native.Nat.{ℕ, _≤_, _<_, min}
+use native.Mathlib.Nat.{le-trans, min-eq-left, min-eq-right, min-le-left}
 use native.Mathlib.Omega.{arith}
 use lib.Dec.{leb, eqb}
-use lib.ListN.{length, getD, take}
+use lib.ListN.{length, getD, take, length-take}
 use lib.Seq.{ext-getD, getD-take, length-take-le}
-use borrow.Author.Tests.{leb-true, le-leb, lt-leb, ne-eqb}
-use Rattle.base.specs.Answer.{Answer, Refused}
+use borrow.Author.Tests.{leb-true, lt-leb, eqb-true, ne-eqb}
+use Rattle.base.specs.Answer.{Answer, Value, Refused, refused-not}
 use Rattle.base.specs.Pick.{pick, either, lt-or-le}
-use Rattle.base.specs.Tests.{every, any, both, up-to-same}
+use Rattle.base.specs.Tests.{both, up-to-same}
 use Rattle.model.specs.ConfigLaws.{depth-bounds}
 use Rattle.model.specs.Domain.{depthIn, predictorIn, colorIn, noColor}
-use Rattle.model.specs.declared.Color.{Color}
 use Rattle.model.specs.declared.PalettePredictor.{PalettePredictor}
 use Rattle.syntax.specs.Block.{Told, readBlock}
-use Rattle.read.specs.Reading.{formatsIn, sizesIn, readRefusal, callWith, readAnswer}
+use Rattle.syntax.specs.PaletteLaws.{CallOk}
+use Rattle.read.specs.Reading.{formatsIn, sizesIn, readRefusal, callWith, readAnswer, fit}
 
 -- ---- numbers held to a byte
 
@@ -105,3 +105,16 @@ module _ (size : ℕ) (lossless : Bool) (room : ℕ) (l : List ℕ) where
       -- an array of 128 entries, of which the first `size` are q's
       pub read-array : readAnswer size format luma chroma lossless p room l ≡ readAnswer size format luma chroma lossless q room l
       read-array = ⊎-elim (λ (h : 128 < p .size). read-five p (over-128 format luma chroma p h) ∙ sym (read-five q (over-128 format luma chroma q (omega arith)))) (λ (h : p .size ≤ 128). within h) (lt-or-le 128 (p .size))
+
+-- ---- a block is taken
+
+module _ (size format luma chroma : ℕ) (lossless : Bool) (p : PalettePredictor) (room : ℕ) (l : List ℕ) where
+  pub read-taken : (t : Told) (q : ℕ) → readAnswer size format luma chroma lossless p room l ≡ Value t q → CallOk (callWith size format luma chroma lossless p) × (readBlock (callWith size format luma chroma lossless p) l 0 ≡ Value t q)
+  unfolding readAnswer
+  read-taken t q e =
+      either (eqb (readRefusal size format luma chroma p room) 0)
+      (λ z.
+      let f = fit size format luma chroma p room (eqb-true _ 0 z) in
+      let n : length (take (p .size) (p .entries)) ≤ 128 = rw (length-take (p .size) (p .entries)) (le-trans (min-le-left (p .size) (length (p .entries))) (f .entries)) in
+      (record { size = f .least; most = f .most; limit = omega arith; predictor = n }, rw z at e))
+      (λ z. absurd (refused-not (rw z at e)))

@@ -1,23 +1,25 @@
 -- The planes afterwards from what is laid on them, the answers of the entry point, and what it leaves.
-use mathlib.Core.Bool.{Bool, true, false}
+use mathlib.Core.Bool.{Bool, true, false, not}
 use mathlib.Core.List.{List, [], _∷_, _++_}
 use mathlib.Core.Path.{_≡_, sym, _∙_}
-use Prim.Native.Nat.{ℕ, _*_, _≤_, _<_}
+use Prim.Native.Nat.{ℕ, _+_, _*_, _≤_, _<_}
 use native.Mathlib.Nat.{div-mul-le-self}
 use native.Mathlib.Omega.{arith}
 use lib.Dec.{eqb}
 use lib.ListN.{getD, length}
-use borrow.Author.Tests.{ne-eqb, eqb-true, eqb-false}
+use borrow.Author.Tests.{ne-eqb, eqb-true, eqb-false, not-true}
 use Rattle.base.specs.Pick.{pick, either}
-use Rattle.base.specs.Cells.{laid}
+use Rattle.base.specs.Cells.{laid, laid-same}
 use Rattle.base.specs.Refusals.{refused-early, refused-late}
-use Rattle.base.specs.Tests.{every, any, both, refusal}
+use Rattle.base.specs.Tests.{every, any, both, refusal, upTo, up-to-at}
 use Rattle.model.specs.Domain.{subW, subH}
 use Rattle.model.specs.DomainLaws.{source-bounds}
 use Rattle.model.specs.Whole.{holds, matches, matchesSize}
 use Rattle.model.specs.declared.PaletteConfig.{PaletteConfig}
 use Rattle.model.specs.declared.PaletteCu.{PaletteCu}
 use Rattle.model.specs.declared.SourceBlock.{SourceBlock}
+use Rattle.entries.specs.Entries.{paletteOf}
+use Rattle.levels.specs.Levels.{valueAt}
 use Rattle.source.specs.Laws.{some}
 use Rattle.sse.specs.Sse.{blockIn}
 use Rattle.sse.specs.Laws.{same-size}
@@ -117,6 +119,16 @@ module _ (stride : ℕ) (c : PaletteConfig) (g : SourceBlock) (cu : PaletteCu) (
       (λ t.
       let f = some (cu .«chroma_idc») (eqb-false (cu .«chroma_idc») 0 t) in
       w ∙ rw (t, e) (after-cells (chromaOnto stride (cu .«chroma_idc») g (cu .size) (cu .transpose) comp) (cellColor c cu) l values plane m n (a f) (k f) h q))
+
+-- ---- cells none of which escapes
+
+pub painted : (c : PaletteConfig) (cu : PaletteCu) (palette l : List ℕ) (m : ℕ) → palette ≡ paletteOf cu → upTo m (λ j. not (eqb (getD (cu .indices) j 0) (cu .«palette_size»))) ≡ true
+    → laid (λ j. getD palette (getD (cu .indices) j 0) 0) l 0 m ≡ laid (cellColor c cu) l 0 m
+unfolding cellColor valueAt
+painted c cu palette l m p e = laid-same (λ j. getD palette (getD (cu .indices) j 0) 0) (cellColor c cu) l 0 m (λ j h. one (0 + j) (omega arith))
+  where
+    one : (j : ℕ) → j < m → getD palette (getD (cu .indices) j 0) 0 ≡ cellColor c cu j
+    one j h = rw (p, not-true (eqb (getD (cu .indices) j 0) (cu .«palette_size»)) (up-to-at (λ i. not (eqb (getD (cu .indices) i 0) (cu .«palette_size»))) m e j h))
 
 -- ---- the answers
 

@@ -1,11 +1,12 @@
 // The reconstruction of a block onto lent planes.
 ghost use mathlib.Core.Path.{_≡_};
-ghost use mathlib.Core.Bool.{true};
+ghost use mathlib.Core.Bool.{true, not};
 ghost use Prim.Native.Nat.{_/_, _≤_, max};
 ghost use lib.Dec.{eqb};
-ghost use lib.ListN.{length};
+ghost use lib.ListN.{length, getD};
 ghost use Rattle.base.specs.Pick.{pick};
 ghost use Rattle.base.specs.Cells.{laid};
+ghost use Rattle.base.specs.Tests.{upTo};
 ghost use Rattle.model.specs.Domain.{configIn};
 ghost use Rattle.sse.specs.Sse.{blockIn};
 ghost use Rattle.onto.specs.Onto.{after};
@@ -103,15 +104,64 @@ fn block_rows(format: u8, l: Onto, b: Onto) -> usize
     greater(n, m)
 }
 
+// Whether index k is another than n.
+fn differs(k: u8, n: usize) -> bool
+    ensures { λ r. ⌜ r ≡ not (eqb k n) ⌝ }
+{
+    k as usize != n
+}
+
+// Whether none of the first m indices is n, an escape.
+fn none_escape(indices: &[u8; 1024], m: usize, n: usize) -> bool
+    requires { ⌜ m ≤ 1024 ⌝ }
+    ensures { λ r. ⌜ r ≡ upTo m (λ j. not (eqb (getD (now (indices .entry)) j 0) n)) ⌝ }
+{
+    let mut ok = true;
+    let mut i: usize = 0;
+    while i < m {
+        ok = ok & differs(indices[i], n);
+        i += 1;
+    }
+    ok
+}
+
+// Entry k; 0 past the palette.
+fn entry(palette: &[u64; 64], k: u8) -> u64
+    requires { ⌜ length (now palette) ≡ 64 ⌝ }
+    ensures { λ r. ⌜ r ≡ getD (now (palette .entry)) k 0 ⌝ }
+{
+    if k < 64 {
+        return palette[k as usize];
+    }
+    0
+}
+
+// The entries of the first m cells.
+fn paint(palette: &[u64; 64], indices: &[u8; 1024], m: usize, out: &mut [u64; 1024])
+    requires { ⌜ (m ≤ 1024) × (length (now palette) ≡ 64) ⌝ }
+    ensures { λ _. ⌜ now (out .exit) ≡ laid (λ j. getD (now (palette .entry)) (getD (now (indices .entry)) j 0) 0) (now (out .entry)) 0 m ⌝ }
+{
+    let mut i: usize = 0;
+    while i < m {
+        let v = entry(palette, indices[i]);
+        out[i] = v;
+        i += 1;
+    }
+}
+
 // The colours of the first m cells.
 fn cell_colors(c: PaletteConfig, cu: PaletteCu, m: usize, out: &mut [u64; 1024])
     requires { ⌜ (configIn c ≡ true) × (m ≤ 1024) ⌝ }
     ensures { λ _. ⌜ now (out .exit) ≡ laid (cellColor c cu) (now (out .entry)) 0 m ⌝ }
 {
-    let s = levels::scale_of(c);
     let p = cu.palette;
     let palette = entries::pack_palette(p);
     let indices = cu.indices;
+    if none_escape(&indices, m, cu.palette_size) {
+        paint(&palette, &indices, m, out);
+        return;
+    }
+    let s = levels::scale_of(c);
     let escapes = cu.escapes;
     levels::values(s, &palette, cu.palette_size, &indices, escapes, m, out);
 }

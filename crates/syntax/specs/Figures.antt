@@ -114,6 +114,17 @@ pub limits : (reuseBins 2 (true ∷ true ∷ false ∷ []) ≡ 0 ∷ 0 ∷ []) �
 unfolding reuseBins lead codeOf egk egkAux bits signalledBins
 limits = (refl, refl, refl, refl)
 
+-- where chroma levels stand in a block of size 2, along the scan, whose columns are 0 1 1 0 and whose rows 0 0 1 1
+abbrev places : ℕ → Bool → List Bool
+places format turned =
+    let c : Call = record { size = 2; format = format; luma = 8; chroma = 8; lossless = false; limit = 64; predictor = [] } in
+    chromaDue c turned 0 ∷ chromaDue c turned 1 ∷ chromaDue c turned 2 ∷ chromaDue c turned 3 ∷ []
+
+-- 4:0:0 nowhere; 4:2:0 in even columns of even rows; 4:2:2 in even columns, transposed in even rows; 4:4:4 everywhere
+pub chroma-places : (places 0 false ≡ false ∷ false ∷ false ∷ false ∷ []) × (places 1 false ≡ true ∷ false ∷ false ∷ false ∷ []) × (places 1 true ≡ true ∷ false ∷ false ∷ false ∷ []) × (places 2 false ≡ true ∷ false ∷ false ∷ true ∷ []) × (places 2 true ≡ true ∷ true ∷ false ∷ false ∷ []) × (places 3 true ≡ true ∷ true ∷ true ∷ true ∷ [])
+unfolding chromaDue rowOf colOf
+chroma-places = (refl, refl, refl, refl, refl, refl)
+
 -- the entry points on the worked example: with room it is written, with less 9; runs that do not replay are 8
 pub entry-2 : (writeAnswer call-2 block-2 runs-2 29 ≡ Value bins-2 29) × (writeAnswer call-2 block-2 runs-2 28 ≡ Refused 9 0) × (writeAnswer call-2 block-2 [] 29 ≡ Refused 8 0) × (readAnswer call-2 4 bins-2 ≡ Value (record { block = block-2; runs = runs-2 }) 29) × (readAnswer call-2 3 bins-2 ≡ Refused 9 0)
 unfolding writeAnswer readAnswer test1 test2 fitting test5 level test7 test8 every pairwise both copied drawn sentRight rules replays lessOne aboveAt placeAbove scanAt rowOf colOf reference trues call-2 block-2 runs-2 bins-2 written-2 blockBins paletteBins reuseBins signalledBins entriesBins column eachBins bits egk egkAux mapBins codedBins indicesBins countBins rice unary tb flog flogAux sentOf finalOf runsBins kindBins asked moreBins runBins runClass prefixOf suffixBins suffixes levelsBins dues levelBins readBlock sentAt paletteAt reuseAt signalledAt entriesAt eachAt bitsFrom binAt egkAt onesFrom held entries mapAt codedAt indicesAt countAt riceAt unaryAt tbAt runsAt kindAt inferred nextSent moreAt runAt suffixAt levelsAt levelAt cellsOf replay copyCells indexOf toldBy chosen markerAt

@@ -5,11 +5,9 @@ use mathlib.Core.Logic.{⊎-elim}
 use mathlib.Core.Path.{_≡_, refl, sym, _∙_}
 use Prim.Native.Nat.{ℕ, _+_, _*_, _≤_, _<_}
 use native.Mathlib.Omega.{arith}
-use lib.Dec.{leb}
 use borrow.Author.Tests.{le-leb, lt-leb, leb-true}
 use Rattle.base.specs.Codes.{All}
-use Rattle.base.specs.Pick.{pick, either, true-false, lt-or-le}
-use Rattle.base.specs.Tests.{every}
+use Rattle.base.specs.Pick.{either, true-false, lt-or-le}
 use Rattle.model.specs.Whole.{maxIndex}
 use Rattle.model.specs.declared.PaletteCu.{PaletteCu}
 use Rattle.syntax.specs.KeepLaws.{keeps-le, may-not}

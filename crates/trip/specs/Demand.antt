@@ -104,6 +104,7 @@ pub record Back (cu : PaletteCu) (rs : List Run) (bins : ℕ) (r : BlockRead) : 
   -- the block
   pub block : Same cu (r .cu)
   -- its runs
+  pub count : r .count ≡ length (runsSent cu rs)
   pub runs : take (r .count) (r .runs) ≡ runsSent cu rs
   -- exactly those bins used
   pub used : r .used ≡ bins

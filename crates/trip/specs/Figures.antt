@@ -1,27 +1,26 @@
 -- The round trip worked out: document 01's example goes all the way, and the levels of a transposed 4:2:2 block.
 use mathlib.Core.Bool.{Bool, true, false}
 use mathlib.Core.List.{List, [], _∷_}
-use mathlib.Core.Path.{_≡_, refl, ap, sym}
-use Prim.Native.Nat.{ℕ, _-_, _≤_}
+use mathlib.Core.Path.{_≡_, refl, ap}
+use Prim.Native.Nat.{ℕ, _-_}
 use native.Mathlib.Omega.{arith}
-use lib.Ieee.{Float, binary32, add, lt, le, div, ofInt, ofBits}
+use lib.Ieee.{add, lt, le, div, ofInt, ofBits}
 use lib.ListN.{length, replicate}
 use Rattle.base.specs.Codes.{eachBins}
 use Rattle.base.specs.Lists.{padded}
 use Rattle.base.specs.Tests.{upTo}
 use Rattle.base.specs.Upto.{number}
-use Rattle.h265.specs.Reuse.{trues, flagged, lead, codeOf, reuseBins}
+use Rattle.h265.specs.Reuse.{trues, flagged, reuseBins}
 use Rattle.h265.specs.Scan.{rowOf, colOf, scanAt, placeAbove, aboveAt}
 use Rattle.h265.specs.Strings.{bits, egk, egkAux, tb, flog, flogAux, unary, rice, countBins, runBins, prefixOf, suffixes, suffixBins, runClass}
 use Rattle.model.specs.Domain.{depthIn, sizeIn, evenIn, colorIn, noColor, predictorIn}
 use Rattle.model.specs.Whole.{maxIndex, blockSizeIn, formatHolds, countsHold, entriesHold, levelIn, levelsIn, noLevels, cellHolds, emptyHolds, holds}
 use Rattle.model.specs.declared.PaletteCu.{PaletteCu}
 use Rattle.model.specs.declared.PalettePredictor.{PalettePredictor}
-use Rattle.model.specs.declared.PaletteRun.{PaletteRun}
 use Rattle.rates.specs.declared.RateModel.{RateModel}
 use Rattle.rates.specs.Rates.{rateIn, pairIn, ratesIn, classRates, rateOf, sumOf, tbParts, suffixParts, runParts, runRate, indexRate, shareRate}
 use Rattle.paths.specs.Cells.{copies, lasts, indexLen, aboveLen, drawsFrom, sentFrom, stopsAt}
-use Rattle.paths.specs.Plan.{job, priceOf, flagRate, headRate, drawCost, copyCost, relaxed, stopped, indexed, copied, stepped, swept, trail, runTo, runsOf, endCost, lastKind, planned}
+use Rattle.paths.specs.Plan.{flagRate, headRate, drawCost, copyCost, relaxed, stopped, indexed, copied, stepped, swept, trail, runTo, runsOf, endCost, lastKind, planned}
 use Rattle.plan.specs.Answer.{runsFor}
 use Rattle.syntax.specs.Block.{column, signalledBins, entriesBins, paletteBins, indicesBins, codedBins, mapBins, chromaDue, dues, levelBins, levelsBins, blockBins}
 use Rattle.syntax.specs.Replay.{reference, lessOne}

@@ -1,14 +1,10 @@
 -- DEMAND 3 through lists that the caller lends: a run list filled by plan_runs and walked by write_palette_cu, a bin list, and a run list filled by read_palette_cu.
-use mathlib.Core.Bool.{Bool, true, false}
-use mathlib.Core.List.{List, [], _∷_, _++_}
-use mathlib.Core.Path.{_≡_, refl, ap, sym, subst, _∙_}
+use mathlib.Core.Bool.{true}
+use mathlib.Core.List.{List, _++_}
+use mathlib.Core.Path.{_≡_, refl, ap, _∙_}
 use Prim.Native.Nat.{ℕ, _+_, _*_, _≤_, _<_}
-use native.Mathlib.Omega.{arith}
-use lib.Dec.{eqb}
 use lib.ListN.{length, take, drop}
 use lib.Seq.{take-length}
-use borrow.Author.Tests.{eqb-true, eqb-false}
-use Rattle.base.specs.Pick.{pick, either}
 use Rattle.model.specs.Whole.{maxIndex, holds}
 use Rattle.model.specs.declared.PaletteCu.{PaletteCu}
 use Rattle.model.specs.declared.PalettePredictor.{PalettePredictor}
@@ -21,17 +17,15 @@ use Rattle.planlist.specs.After.{countOf, runsAfter}
 use Rattle.planlist.specs.AfterLaws.{after-runs, after-nothing, after-refused}
 use Rattle.rates.specs.Rates.{ratesIn}
 use Rattle.rates.specs.declared.RateModel.{RateModel}
-use Rattle.read.specs.Reading.{readOf}
-use Rattle.readblock.specs.declared.BlockRead.{BlockRead}
 use Rattle.readlist.specs.After.{cuReadOf}
 use Rattle.readlist.specs.After as R
 use Rattle.readlist.specs.AfterLaws as L
 use Rattle.readlist.specs.declared.CuRead.{CuRead}
-use Rattle.write.specs.Write.{binsOf, runsHold, writeOf, listAfter}
+use Rattle.write.specs.Write.{binsOf, writeOf, listAfter}
 use Rattle.write.specs.declared.Written.{Written}
 use Rattle.eyes.specs.Ready.{Ready, Arrays}
-use Rattle.trip.specs.Demand.{Covers, Same, runsSent, Back, WriteRead}
-use Rattle.trip.specs.Trip.{few, runs-hold, runs-cover, plan-is, count-is, runs-are}
+use Rattle.trip.specs.Demand.{Covers, Same, runsSent}
+use Rattle.trip.specs.Trip.{few, runs-hold, runs-cover, plan-is, runs-are}
 use Rattle.trip.specs.Written.{write-read}
 
 module _ (cu : PaletteCu) (p : PalettePredictor) (m : RateModel) (list : List PaletteRun) (bins : List ℕ) (other : List PaletteRun) (rest : List ℕ) where
@@ -74,6 +68,7 @@ module _ (cu : PaletteCu) (p : PalettePredictor) (m : RateModel) (list : List Pa
     pub block : Same cu (read .cu)
     pub used : read .used ≡ wrote .bins
     -- its runs stand at the start of the reader's list, and every record past them is as it was
+    pub count : read .count ≡ length (runsSent cu runs)
     pub back : take (read .count) listed ≡ runsSent cu runs
     pub kept : drop (read .count) listed ≡ drop (read .count) other
 
@@ -113,6 +108,7 @@ module _ (cu : PaletteCu) (p : PalettePredictor) (m : RateModel) (list : List Pa
         accepted = b .accepted;
         block = b .block;
         used = b .used;
+        count = b .count ∙ ap (λ (x : List PaletteRun). length (runsSent cu x)) t;
         back = l .0 ∙ b .runs ∙ ap (runsSent cu) t;
         kept = l .1;
       }

@@ -5,8 +5,8 @@ use mathlib.Core.Path.{_≡_, refl, ap, sym, _∙_}
 use Prim.Native.Nat.{ℕ, zero, suc, _+_, _*_, _-_, _≤_, _<_}
 use native.Mathlib.Nat.{add-zero, zero-add}
 use native.Mathlib.Omega.{arith}
-use lib.Dec.{ltb, leb, eqb}
-use lib.ListN.{length, take, drop, getD, length-drop}
+use lib.Dec.{ltb, eqb}
+use lib.ListN.{length, take, getD, length-drop}
 use lib.Seq.{getD-take}
 use borrow.Author.Tests.{eqb-true, ltb-false}
 use Rattle.base.specs.Lists.{padded, padded-read}
@@ -19,7 +19,7 @@ use Rattle.model.specs.declared.Levels.{Levels}
 use Rattle.model.specs.declared.PaletteCu.{PaletteCu}
 use Rattle.model.specs.declared.PalettePredictor.{PalettePredictor}
 use Rattle.readblock.specs.Read.{zipLevels}
-use Rattle.syntax.specs.Block.{Call, colours, paletteOf, chromaDue, dues}
+use Rattle.syntax.specs.Block.{colours, paletteOf, chromaDue, dues}
 use Rattle.syntax.specs.Records.{callOf, blockOf}
 use Rattle.syntax.specs.Runs.{Run}
 use Rattle.syntax.specs.Whole.{topIndex, keepDue, turnedOf, readBack}
@@ -29,14 +29,14 @@ use Rattle.trip.specs.Suit.{call, colours-are, cells-are, top-is, column
 
 -- ---- lists
 
-zip-length : (ys us vs : List ℕ) → length us ≡ length ys → length vs ≡ length ys → length (zipLevels ys us vs) ≡ length ys
+pub zip-length : (ys us vs : List ℕ) → length us ≡ length ys → length vs ≡ length ys → length (zipLevels ys us vs) ≡ length ys
 unfolding zipLevels
 zip-length [] us vs a b = refl
 zip-length (y ∷ ys) [] vs a b = absurd (omega arith)
 zip-length (y ∷ ys) (u ∷ us) [] a b = absurd (omega arith)
 zip-length (y ∷ ys) (u ∷ us) (v ∷ vs) a b = ap suc (zip-length ys us vs (omega arith) (omega arith))
 
-zip-at : (ys us vs : List ℕ) (i : ℕ) → i < length ys → length us ≡ length ys → length vs ≡ length ys → getD (zipLevels ys us vs) i noLevels ≡ record { y = getD ys i 0; cb = getD us i 0; cr = getD vs i 0 }
+pub zip-at : (ys us vs : List ℕ) (i : ℕ) → i < length ys → length us ≡ length ys → length vs ≡ length ys → getD (zipLevels ys us vs) i noLevels ≡ record { y = getD ys i 0; cb = getD us i 0; cr = getD vs i 0 }
 unfolding zipLevels
 zip-at [] us vs i h a b = absurd (omega arith)
 zip-at (y ∷ ys) [] vs i h a b = absurd (omega arith)

@@ -6,5 +6,6 @@ pub mod Covers
 pub mod Trip
 pub mod Lent
 pub mod Step
+pub mod Accepted
 pub mod Made
 pub mod Figures

@@ -1,5 +1,5 @@
 -- The round trip of every block that analysis and assignment make, as it is and smoothed.
-use mathlib.Core.Bool.{Bool, true, false}
+use mathlib.Core.Bool.{Bool, true}
 use mathlib.Core.List.{List}
 use mathlib.Core.Logic.{⊎-elim}
 use mathlib.Core.Path.{_≡_, ap, sym, subst, _∙_}
@@ -24,7 +24,7 @@ use Rattle.rates.specs.declared.RateModel.{RateModel}
 use Rattle.smoothing.specs.Holds.{refused-kept, rest-kept, indices-kept, accepted-holds}
 use Rattle.smoothing.specs.Smoothing.{smoothOf}
 use Rattle.write.specs.Write.{binsOf}
-use Rattle.eyes.specs.Ready.{Ready, Arrays, Seen, ready, ready-with}
+use Rattle.eyes.specs.Ready.{Seen, ready, ready-with}
 use Rattle.trip.specs.Demand.{RoundTrip}
 use Rattle.trip.specs.Lent.{LentTrip, lent-trip}
 use Rattle.trip.specs.Trip.{round-trip}

@@ -1,23 +1,23 @@
 -- The block that is read back is itself such a block, and encoder and decoder stay in step: it leaves the predictor that the written one leaves.
 use mathlib.Core.Bool.{Bool, true, false, not}
-use mathlib.Core.List.{List, [], _∷_}
-use mathlib.Core.Path.{_≡_, refl, ap, sym, subst, _∙_}
-use Prim.Native.Nat.{ℕ, _+_, _*_, _-_, _≤_, _<_}
+use mathlib.Core.List.{[], _∷_}
+use mathlib.Core.Path.{_≡_, ap, sym, _∙_}
+use Prim.Native.Nat.{ℕ, _*_, _-_, _≤_, _<_}
 use native.Mathlib.Omega.{arith}
-use lib.Dec.{ltb, leb, eqb}
-use lib.ListN.{length, take, getD}
+use lib.Dec.{ltb, eqb}
+use lib.ListN.{take, getD}
 use lib.Seq.{take-take, getD-take}
 use borrow.Author.Tests.{le-leb, eq-eqb, not-true}
 use Rattle.base.specs.Pick.{pick, either}
-use Rattle.base.specs.Tests.{every, any, both, pick-same, upTo, at-up-to, refusal}
-use Rattle.h265.specs.Reuse.{trues, flagged}
-use Rattle.model.specs.Domain.{most, colorIn, noColor, predictorIn, sizeIn, evenIn}
+use Rattle.base.specs.Tests.{every, any, both, pick-same, upTo, at-up-to}
+use Rattle.h265.specs.Reuse.{trues}
+use Rattle.model.specs.Domain.{most, noColor}
 use Rattle.model.specs.Whole.{maxIndex, blockSizeIn, formatHolds, countsHold, entriesHold, levelIn, levelsIn, noLevels, cellHolds, emptyHolds, holds}
 use Rattle.model.specs.WholeLaws.{Whole, whole}
 use Rattle.model.specs.declared.Levels.{Levels}
 use Rattle.model.specs.declared.PaletteCu.{PaletteCu}
 use Rattle.model.specs.declared.PalettePredictor.{PalettePredictor}
-use Rattle.predictor.specs.Update.{renewedOf, updateRefusal, updateOf}
+use Rattle.predictor.specs.Update.{updateRefusal, updateOf}
 use Rattle.syntax.specs.Block.{chromaDue}
 use Rattle.syntax.specs.Records.{callOf}
 use Rattle.eyes.specs.Ready.{Ready}

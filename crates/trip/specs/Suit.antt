@@ -3,10 +3,10 @@ use mathlib.Core.Bool.{Bool, true, false, not}
 use mathlib.Core.List.{List, [], _∷_, map}
 use mathlib.Core.Logic.{_≢_}
 use mathlib.Core.Path.{_≡_, refl, ap, sym, _∙_}
-use Prim.Native.Nat.{ℕ, zero, suc, _+_, _*_, _-_, _^_, _≤_, _<_}
+use Prim.Native.Nat.{ℕ, suc, _*_, _-_, _^_, _≤_, _<_}
 use native.Mathlib.Nat.{mul-le-mul}
 use native.Mathlib.Omega.{arith}
-use lib.Dec.{ltb, leb, eqb}
+use lib.Dec.{leb, eqb}
 use lib.ListN.{length, take, getD, length-map, List·getD-map}
 use lib.Pow.{pow-pos}
 use lib.Seq.{length-take-le, take-take, getD-take}
@@ -16,7 +16,6 @@ use Rattle.base.specs.Codes.{All, Each}
 use Rattle.base.specs.Pick.{pick}
 use Rattle.base.specs.Tests.{every, any, both}
 use Rattle.h265.specs.Reuse.{trues, flagged}
-use Rattle.h265.specs.Strings.{bit}
 use Rattle.model.specs.Domain.{most, mostChroma, colorIn, noColor}
 use Rattle.model.specs.Whole.{maxIndex, levelIn, levelsIn, noLevels, emptyHolds, holds}
 use Rattle.model.specs.WholeLaws.{Whole, whole}
@@ -24,7 +23,7 @@ use Rattle.model.specs.declared.Color.{Color}
 use Rattle.model.specs.declared.Levels.{Levels}
 use Rattle.model.specs.declared.PaletteCu.{PaletteCu}
 use Rattle.model.specs.declared.PalettePredictor.{PalettePredictor}
-use Rattle.syntax.specs.Block.{Entry, Call, chromaDepth, chosen}
+use Rattle.syntax.specs.Block.{Entry, Call, chosen}
 use Rattle.syntax.specs.LevelLaws.{InLevel}
 use Rattle.syntax.specs.PaletteLaws.{Fits, CallOk}
 use Rattle.syntax.specs.Records.{callOf, blockOf}
@@ -44,7 +43,7 @@ each-by Ok (x ∷ xs) [] d e n h = absurd (omega arith)
 each-by Ok (x ∷ xs) (v ∷ vs) d e n h = (h 0 (omega arith), each-by Ok xs vs d e (omega arith) (λ i l. h (suc i) (omega arith)))
 
 -- the marked entries, said in two ways
-chosen-flagged : (fs : List Bool) (es : List Entry) → flagged fs es ≡ chosen fs es
+pub chosen-flagged : (fs : List Bool) (es : List Entry) → flagged fs es ≡ chosen fs es
 unfolding chosen flagged
 chosen-flagged [] es = refl
 chosen-flagged (f ∷ fs) [] = refl
@@ -60,7 +59,7 @@ below-chroma : (t : Bool) (d v : ℕ) → v ≤ pick t 0 (most d) → v < 2 ^ pi
 below-chroma true d v h = omega arith
 below-chroma false d v h = below d v h
 
-color-fits : (c : Call) (e : Color) → colorIn (c .format) (c .luma) (c .chroma) e ≡ true → Fits c e
+pub color-fits : (c : Call) (e : Color) → colorIn (c .format) (c .luma) (c .chroma) e ≡ true → Fits c e
 unfolding colorIn
 color-fits c e h =
     let y = both (leb (e .y) (most (c .luma))) _ h in

@@ -1,14 +1,14 @@
 -- DEMAND 3: what is planned and written is what is read.
-use mathlib.Core.Bool.{Bool, true, false}
-use mathlib.Core.List.{List, [], _∷_}
-use mathlib.Core.Path.{_≡_, refl, ap, sym, _∙_}
-use Prim.Native.Nat.{ℕ, _+_, _*_, _≤_, _<_}
+use mathlib.Core.Bool.{true, false}
+use mathlib.Core.List.{List, []}
+use mathlib.Core.Path.{_≡_, ap, sym, _∙_}
+use Prim.Native.Nat.{ℕ, _*_, _≤_, _<_}
 use native.Mathlib.Nat.{mul-le-mul}
 use native.Mathlib.Omega.{arith}
-use lib.Dec.{ltb, leb, eqb}
+use lib.Dec.{eqb}
 use lib.ListN.{length, take}
 use borrow.Author.Tests.{le-leb, eqb-true, eqb-false, ne-eqb}
-use Rattle.base.specs.Pick.{pick, either}
+use Rattle.base.specs.Pick.{either}
 use Rattle.base.specs.Tests.{both}
 use Rattle.model.specs.Whole.{maxIndex, blockSizeIn, holds}
 use Rattle.model.specs.WholeLaws.{whole}

@@ -1,30 +1,29 @@
 -- For every run list that keeps the rules: the writer lays the block's bins, and the reader reads them back, whatever follows them.
-use mathlib.Core.Bool.{Bool, true, false}
-use mathlib.Core.List.{List, [], _∷_, _++_}
+use mathlib.Core.Bool.{true, false}
+use mathlib.Core.List.{List, [], _++_}
 use mathlib.Core.Path.{_≡_, refl, ap, sym, subst, _∙_}
-use Prim.Native.Nat.{ℕ, _+_, _*_, _-_, _≤_, _<_}
+use Prim.Native.Nat.{ℕ, _+_, _*_, _-_, _≤_}
 use native.Mathlib.Nat.{zero-add}
-use native.Mathlib.Omega.{arith}
-use lib.Dec.{ltb, leb, eqb}
-use lib.ListN.{length, take, drop, getD}
-use lib.Seq.{sets, sets-eq, take-at, getD-take}
+use lib.Dec.{ltb}
+use lib.ListN.{length, take, drop}
+use lib.Seq.{sets-eq, take-at, getD-take}
 use borrow.Author.Tests.{le-leb}
-use Rattle.base.specs.Answer.{Answer, Value}
-use Rattle.base.specs.Lists.{padded, padded-take, padded-read}
+use Rattle.base.specs.Answer.{Value}
+use Rattle.base.specs.Lists.{padded-take, padded-read}
 use Rattle.base.specs.Pick.{pick}
 use Rattle.base.specs.Tests.{every, refusal, both}
-use Rattle.model.specs.Domain.{noColor, predictorIn}
-use Rattle.model.specs.Whole.{maxIndex, blockSizeIn, holds}
+use Rattle.model.specs.Domain.{noColor}
+use Rattle.model.specs.Whole.{blockSizeIn, holds}
 use Rattle.model.specs.WholeLaws.{whole}
 use Rattle.model.specs.declared.PaletteCu.{PaletteCu}
 use Rattle.model.specs.declared.PalettePredictor.{PalettePredictor}
 use Rattle.read.specs.Reading.{formatsIn, sizesIn, readRefusal, readOf, read-done}
 use Rattle.readblock.specs.Read.{cuRead, answerOf}
 use Rattle.readblock.specs.declared.BlockRead.{BlockRead}
-use Rattle.syntax.specs.Block.{Told, paletteBins, entriesBins, levelsBins, chromaDue, blockBins, readBlock}
-use Rattle.syntax.specs.Records.{noRun, callOf, blockOf}
+use Rattle.syntax.specs.Block.{paletteBins, entriesBins, levelsBins, chromaDue, blockBins, readBlock}
+use Rattle.syntax.specs.Records.{noRun, blockOf}
 use Rattle.syntax.specs.Runs.{Run}
-use Rattle.syntax.specs.Whole.{topIndex, turnedOf, readBack}
+use Rattle.syntax.specs.Whole.{topIndex, readBack}
 use Rattle.syntax.specs.WholeLaws.{written-read}
 use Rattle.write.specs.declared.Written.{Written}
 use Rattle.write.specs.Write.{binsOf, runsHold, writeRefusal, writeOf, listAfter}
@@ -111,6 +110,7 @@ module _ (cu : PaletteCu) (p : PalettePredictor) (a : Arrays p cu) (ready : Read
         tolerance = refl;
         figure = refl;
       };
+      count = ap (λ (m : ℕ). length (pick (ltb 0 m) rs [])) (top-is cu p a ready);
       runs =
           padded-take 1024 noRun (pick (ltb 0 (topIndex (blockOf cu))) rs []) (length (pick (ltb 0 (topIndex (blockOf cu))) rs [])) refl
           ∙ ap (λ (m : ℕ). pick (ltb 0 m) rs []) (top-is cu p a ready);

@@ -1,5 +1,5 @@
 -- `flat::flags_of`. The loop's invariant: the places passed are laid.
-use mathlib.Core.Path.{_≡_, sym, ap, _∙_}
+use mathlib.Core.Path.{_≡_, refl, sym, ap, _∙_}
 use Prim.Native.Nat.{ℕ, _+_, _*_, _-_, _≤_}
 use native.Mathlib.Omega.{arith}
 use lib.ListN.{length, replicate, length-set, length-replicate}
@@ -12,7 +12,6 @@ use Rattle.flat.proofs.flags_of.Statement.{statement}
 use Rattle.flat.proofs.flags_of.Tie as tie
 use Rattle.flat.proofs.flags_of.Reads as reads
 use Rattle.flat.proofs.flags_of.Lts as lts
-use Rattle.flat.proofs.number.Reads as number-reads
 
 abbrev Inv-loop : tie.InvT-loop
 Inv-loop list out₀ i₀ out i = (i ≤ 128) × (length out ≡ 128) × (out ≡ laid (λ (j : ℕ). eqb (number list (208 + j)) 1) out₀ 0 i)
@@ -23,11 +22,14 @@ abbrev μ-loop : tie.MeasureT-loop
 loop-holds : tie.Need-loop-holds Inv-loop μ-loop
 loop-holds c = (omega arith, length-replicate 128 false, sym (laid-none _ _ _))
 
-add-number : tie.Need-add-number Inv-loop μ-loop
-add-number c = omega arith
+add-out : tie.Need-add-out Inv-loop μ-loop
+add-out c = omega arith
 
-number-requires : tie.Need-number-requires Inv-loop μ-loop
-number-requires c κs = omega arith
+mul-out : tie.Need-mul-out Inv-loop μ-loop
+mul-out c = omega arith
+
+shared-slice-read-out : tie.Need-shared-slice-read-out Inv-loop μ-loop
+shared-slice-read-out c = omega arith
 
 array-write-out : tie.Need-array-write-out Inv-loop μ-loop
 array-write-out c = omega arith
@@ -43,7 +45,7 @@ loop-again c =
     let l = c .before .before .loop in (
       omega arith,
       length-set (l .out) (l .i) _ ∙ l .inv .1,
-      laid-on (λ (j : ℕ). eqb (number (c .before .before .before .before .args .list .now) (208 + j)) 1) (replicate 128 false) (l .out) (l .i) _ (l .inv .2) (rw (c .number .ensures)),
+      laid-on (λ (j : ℕ). eqb (number (c .before .before .before .args .list .now) (208 + j)) 1) (replicate 128 false) (l .out) (l .i) _ (l .inv .2) refl,
     )
 
 returns : tie.Need-returns Inv-loop μ-loop
@@ -56,8 +58,9 @@ flags-of-spec =
     Inv-loop
     μ-loop
     loop-holds
-    add-number
-    number-requires
+    add-out
+    mul-out
+    shared-slice-read-out
     array-write-out
     add-i
     loop-less

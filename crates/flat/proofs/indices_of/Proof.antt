@@ -11,7 +11,6 @@ use Rattle.flat.proofs.indices_of.Tie as tie
 use Rattle.flat.proofs.indices_of.Reads as reads
 use Rattle.flat.proofs.indices_of.Lts as lts
 use Rattle.flat.proofs.byte.Reads as byte-reads
-use Rattle.flat.proofs.number.Reads as number-reads
 
 abbrev Inv-loop : tie.InvT-loop
 Inv-loop list out₀ i₀ out i = (i ≤ 1024) × (length out ≡ 1024) × (out ≡ laid (λ (j : ℕ). byte (number list (336 + j))) out₀ 0 i)
@@ -22,11 +21,14 @@ abbrev μ-loop : tie.MeasureT-loop
 loop-holds : tie.Need-loop-holds Inv-loop μ-loop
 loop-holds c = (omega arith, length-replicate {A = ℕ} 1024 0, sym (laid-none _ _ _))
 
-add-number : tie.Need-add-number Inv-loop μ-loop
-add-number c = omega arith
+add-byte : tie.Need-add-byte Inv-loop μ-loop
+add-byte c = omega arith
 
-number-requires : tie.Need-number-requires Inv-loop μ-loop
-number-requires c κs = omega arith
+mul-byte : tie.Need-mul-byte Inv-loop μ-loop
+mul-byte c = omega arith
+
+shared-slice-read-byte : tie.Need-shared-slice-read-byte Inv-loop μ-loop
+shared-slice-read-byte c = omega arith
 
 byte-requires : tie.Need-byte-requires Inv-loop μ-loop
 byte-requires c κs = omega arith
@@ -45,7 +47,7 @@ loop-again c =
     let l = c .before .before .before .loop in (
       omega arith,
       length-set (l .out) (l .i) _ ∙ l .inv .1,
-      laid-on (λ (j : ℕ). byte (number (c .before .before .before .before .before .args .list .now) (336 + j))) (replicate 1024 0) (l .out) (l .i) _ (l .inv .2) (c .byte .ensures ∙ rw (c .before .number .ensures)),
+      laid-on (λ (j : ℕ). byte (number (c .before .before .before .before .before .args .list .now) (336 + j))) (replicate 1024 0) (l .out) (l .i) _ (l .inv .2) (c .byte .ensures),
     )
 
 returns : tie.Need-returns Inv-loop μ-loop
@@ -58,8 +60,9 @@ indices-of-spec =
     Inv-loop
     μ-loop
     loop-holds
-    add-number
-    number-requires
+    add-byte
+    mul-byte
+    shared-slice-read-byte
     byte-requires
     array-write-out
     add-i

@@ -11,7 +11,7 @@ use Rattle.flat.proofs.palette_of.Statement.{statement}
 use Rattle.flat.proofs.palette_of.Tie as tie
 use Rattle.flat.proofs.palette_of.Reads as reads
 use Rattle.flat.proofs.palette_of.Lts as lts
-use Rattle.flat.proofs.color_at.Reads as color-at-reads
+use Rattle.flat.proofs.color_in.Reads as color-in-reads
 
 abbrev Inv-loop : tie.InvT-loop
 Inv-loop list out₀ i₀ out i = (i ≤ 64) × (length out ≡ 64) × (out ≡ laid (λ (j : ℕ). colorAt list (16 + 3 * j)) out₀ 0 i)
@@ -22,14 +22,14 @@ abbrev μ-loop : tie.MeasureT-loop
 loop-holds : tie.Need-loop-holds Inv-loop μ-loop
 loop-holds c = (omega arith, length-replicate 64 noColor, sym (laid-none _ _ _))
 
-mul-color-at : tie.Need-mul-color-at Inv-loop μ-loop
-mul-color-at c = omega arith
+mul-color-in : tie.Need-mul-color-in Inv-loop μ-loop
+mul-color-in c = omega arith
 
-add-color-at : tie.Need-add-color-at Inv-loop μ-loop
-add-color-at c = omega arith
+add-color-in : tie.Need-add-color-in Inv-loop μ-loop
+add-color-in c = omega arith
 
-color-at-requires : tie.Need-color-at-requires Inv-loop μ-loop
-color-at-requires c κs = omega arith
+color-in-requires : tie.Need-color-in-requires Inv-loop μ-loop
+color-in-requires c κs = omega arith
 
 mul-out : tie.Need-mul-out Inv-loop μ-loop
 mul-out c = omega arith
@@ -48,7 +48,7 @@ loop-again c =
     let l = c .before .before .loop in (
       omega arith,
       length-set (l .out) (l .i) _ ∙ l .inv .1,
-      laid-on (λ (j : ℕ). colorAt (c .before .before .before .before .args .list .now) (16 + 3 * j)) (replicate 64 noColor) (l .out) (l .i) _ (l .inv .2) (c .color-at .ensures),
+      laid-on (λ (j : ℕ). colorAt (c .before .before .before .before .args .list .now) (16 + 3 * j)) (replicate 64 noColor) (l .out) (l .i) _ (l .inv .2) (c .color-in .ensures),
     )
 
 returns : tie.Need-returns Inv-loop μ-loop
@@ -61,9 +61,9 @@ palette-of-spec =
     Inv-loop
     μ-loop
     loop-holds
-    mul-color-at
-    add-color-at
-    color-at-requires
+    mul-color-in
+    add-color-in
+    color-in-requires
     mul-out
     array-set-from-out
     add-i

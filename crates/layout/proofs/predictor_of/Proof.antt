@@ -1,9 +1,9 @@
 -- `layout::predictor_of`. The loop's invariant: the places passed are laid.
-use mathlib.Core.Path.{_≡_, sym, ap, _∙_}
+use mathlib.Core.Path.{_≡_, sym, _∙_}
 use Prim.Native.Nat.{ℕ, _+_, _*_, _-_, _≤_}
 use native.Mathlib.Omega.{arith}
 use lib.ListN.{length, replicate, length-set, length-replicate}
-use Rattle.base.specs.Cells.{laid, laid-none, laid-on, laid-done}
+use Rattle.base.specs.Cells.{laid, laid-none, laid-on}
 use Rattle.model.specs.Domain.{noColor}
 use Rattle.layout.specs.Layout.{entryAt, arrayOf}
 use borrow.Author.Needs.{needs}

@@ -1,10 +1,6 @@
 -- `listing::listing`: 16 where the layout is another, else what the reader answers.
-use mathlib.Core.Path.{_≡_, sym, subst, _∙_}
-use mathlib.Core.List.{List}
-use Prim.Native.Nat.{ℕ}
+use mathlib.Core.Path.{sym, _∙_}
 use native.Mathlib.Omega.{arith}
-use lib.ListN.{length, length-map}
-use Rattle.base.specs.Laid.{Laid}
 use Rattle.listing.specs.Printed.{count-most, listing-read, listing-refused}
 use borrow.Author.Needs.{needs}
 use Rattle.listing.proofs.listing.Statement.{statement}
@@ -23,9 +19,7 @@ reading-requires : tie.Need-reading-requires
 reading-requires c κs = sym (c .before .laid-out .ensures) ∙ c .if1 .taken
 
 put-read-requires : tie.Need-put-read-requires
-put-read-requires c κs =
-    let k : length (c .before .reading .result .runs) ≡ 1024 = rw length-map at (c .before .reading .ok .1 .1 .1 .1 .1 .0 .1 .0 .1) in
-    count-most (c .before .before .before .before .before .before .args .file .now) (c .before .reading .result) (c .before .reading .ensures) k
+put-read-requires c κs = count-most (c .before .before .before .before .before .before .args .file .now) (c .before .reading .result) (c .before .reading .ensures)
 
 same-length : tie.Need-same-length
 same-length c = search needs
