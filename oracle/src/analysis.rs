@@ -1,7 +1,7 @@
 //! Palettes from planes, with the colour counter after them.
 
 use crate::blocks::{set, side, Call, Input, Op};
-use crate::draw::{input, one_of};
+use crate::draw::{colorful, input, one_of};
 use crate::palette::{analyze_palette, harness, PaletteCu};
 use crate::quant::QPS;
 use crate::refusals::{self, refused, Edit};
@@ -291,8 +291,8 @@ pub fn within_edits() -> Vec<Edit> {
 }
 
 pub fn compare(report: &mut Report) {
-    report.compare("analyze-small", small().map(Call::<Analyze>::new));
-    report.compare("analyze-limits", limits().map(Call::<Analyze>::new));
+    report.compare("analyze-small", report.once(small()).map(Call::<Analyze>::new));
+    report.compare("analyze-limits", report.once(limits()).map(Call::<Analyze>::new));
     let mut random = report.random("analyze");
     report.compare("analyze", (0..report.blocks).map(move |_| Call::<Analyze>::new(input(&mut random))));
     let (mut random, mut before) = (report.random("analyze-chained"), None);
@@ -306,6 +306,17 @@ pub fn compare(report: &mut Report) {
             Call::<Within>::new(case)
         }),
     );
-    report.compare("analyze-refusals", refused::<Analyze>(edits()));
-    report.compare("analyze-within-refusals", refused::<Within>(within_edits()));
+    let mut random = report.random("analyze-colorful");
+    report.compare("analyze-colorful", (0..report.blocks).map(move |_| Call::<Analyze>::new(colorful(&mut random))));
+    let mut random = report.random("analyze-within-colorful");
+    report.compare(
+        "analyze-within-colorful",
+        (0..report.blocks).map(move |_| {
+            let mut case = colorful(&mut random);
+            case.tolerance = random.below(2);
+            Call::<Within>::new(case)
+        }),
+    );
+    report.compare("analyze-refusals", report.once(refused::<Analyze>(edits())));
+    report.compare("analyze-within-refusals", report.once(refused::<Within>(within_edits())));
 }

@@ -221,12 +221,12 @@ pub fn figure_edits() -> Vec<Edit> {
 }
 
 pub fn compare(report: &mut Report) {
-    report.compare("assign-small", small().map(Call::<Assign>::new));
+    report.compare("assign-small", report.once(small()).map(Call::<Assign>::new));
     let mut random = report.random("assign");
     report.compare("assign", (0..report.blocks).map(move |_| Call::<Assign>::new(drawn(&mut random))));
-    report.compare("assign-refusals", refused::<Assign>(edits()));
-    report.compare("figure-small", small().filter_map(assigned).map(Call::<Figure>::new));
+    report.compare("assign-refusals", report.once(refused::<Assign>(edits())));
+    report.compare("figure-small", report.once(small()).filter_map(assigned).map(Call::<Figure>::new));
     let mut random = report.random("figure");
     report.compare("figure", (0..report.blocks).map(move |_| Call::<Figure>::new(measured(&mut random))));
-    report.compare("figure-refusals", refused::<Figure>(figure_edits()));
+    report.compare("figure-refusals", report.once(refused::<Figure>(figure_edits())));
 }

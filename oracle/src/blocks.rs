@@ -1,6 +1,7 @@
 //! What the calls on whole blocks share: their input as the port's lists of numbers (laid out in crates/flat/src/lib.rt), the same as source 000's records, and both sides' answers.
 
 use crate::palette::harness::blocks as private;
+use crate::coverage::Coverage;
 use crate::palette::{ColorIndex, PaletteConfig, PaletteCu, PalettePredictor, SourceBlock};
 use crate::report::Case;
 use std::fmt;
@@ -327,6 +328,9 @@ impl<O: Op> Case for Call<O> {
         let mut input = self.input.clone();
         (O::port(&mut input), input.lent)
     }
+    fn seen(&self, answer: &(u8, Lent), coverage: &mut Coverage) {
+        coverage.call(O::NAME, &self.input, answer.0, &answer.1);
+    }
     fn smaller(&self) -> Vec<Call<O>> {
         smaller(&self.input).into_iter().map(Call::new).collect()
     }
@@ -405,6 +409,9 @@ impl<O: Op> Case for Refusal<O> {
     }
     fn port(&self) -> (u8, Lent) {
         self.call.port()
+    }
+    fn seen(&self, answer: &(u8, Lent), coverage: &mut Coverage) {
+        self.call.seen(answer, coverage);
     }
 }
 

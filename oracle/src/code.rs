@@ -118,6 +118,20 @@ impl Code {
         }
     }
 
+    /// The exported function that reads it.
+    pub fn reader(&self) -> &'static str {
+        match self {
+            Code::Bin { .. } => "bin_at",
+            Code::Bits { .. } => "bits_at",
+            Code::Tb { .. } => "tb_at",
+            Code::Egk { .. } => "egk_at",
+            Code::Held { .. } => "held_egk_at",
+            Code::Count { .. } => "count_at",
+            Code::Run { .. } => "run_at",
+            Code::Reuse { .. } => "reuse_at",
+        }
+    }
+
     pub fn smaller(&self) -> Vec<Code> {
         match *self {
             Code::Reuse { limit, ref flags } => {

@@ -1,6 +1,7 @@
 //! The codes of single elements: source 000's bins against the port's, and the port's readers on them.
 
 use crate::code::{trues, Code, Value};
+use crate::coverage::Coverage;
 use crate::port::Read;
 use crate::report::{below, Case, Random, Report};
 
@@ -37,6 +38,11 @@ impl Case for Put {
     }
 }
 
+/// The number of a refusal, or 0.
+fn refusal(answer: &Read<Value>) -> u64 {
+    if let Read::Refused(number, _) = answer { *number } else { 0 }
+}
+
 /// The port reading source 000's bins back.
 #[derive(Clone, Debug)]
 pub struct Get {
@@ -60,6 +66,9 @@ impl Case for Get {
     }
     fn port(&self) -> Read<Value> {
         self.code.read(&self.list(), self.at)
+    }
+    fn seen(&self, answer: &Read<Value>, coverage: &mut Coverage) {
+        coverage.leaf(self.code.reader(), refusal(answer), 1);
     }
     fn smaller(&self) -> Vec<Get> {
         let codes = self.code.smaller().into_iter().map(|code| Get { code, at: self.at });
@@ -136,6 +145,10 @@ impl Case for Damaged {
             Read::Refused(number, place) => Used::Refused(number, place),
         }
     }
+    fn seen(&self, answer: &Used, coverage: &mut Coverage) {
+        let number = if let Used::Refused(number, _) = answer { *number } else { 0 };
+        coverage.leaf(self.code.reader(), number, 1);
+    }
     fn smaller(&self) -> Vec<Damaged> {
         let places = below(self.place as u64).into_iter().map(|p| Damaged { place: p as usize, ..self.clone() });
         let codes = self.code.smaller().into_iter().map(|code| Damaged { code, ..self.clone() });
@@ -160,6 +173,9 @@ impl Case for Ones {
         list.extend(vec![1; self.ones]);
         self.code.read(&list, 1)
     }
+    fn seen(&self, answer: &Read<Value>, coverage: &mut Coverage) {
+        coverage.leaf(self.code.reader(), refusal(answer), 1);
+    }
 }
 
 /// A value over its range: refused at its first bin, once it is read.
@@ -178,6 +194,9 @@ impl Case for Over {
         let mut list = vec![BLANK; self.at];
         list.extend(self.code.bins());
         self.code.read(&list, self.at)
+    }
+    fn seen(&self, answer: &Read<Value>, coverage: &mut Coverage) {
+        coverage.leaf(self.code.reader(), refusal(answer), 1);
     }
 }
 
@@ -313,7 +332,7 @@ fn all(kind: usize) -> Box<dyn Iterator<Item = Code>> {
 fn compare_kind(report: &mut Report, kind: usize) {
     let count = report.count;
     if kind != 3 {
-        let whole = all(kind).map(|code| {
+        let whole = report.once(all(kind)).map(|code| {
             let len = code.bins().len() + 3;
             Put { code, at: 2, len }
         });
@@ -327,7 +346,7 @@ fn compare_kind(report: &mut Report, kind: usize) {
     }
     let mut random = report.random(GET[kind]);
     let more = (0..count).map(|_| (drawn(kind, &mut random), random.below(9) as usize));
-    let cases = all(kind).map(|code| (code, 1)).chain(more).map(|(code, at)| Get { code, at });
+    let cases = report.once(all(kind)).map(|code| (code, 1)).chain(more).map(|(code, at)| Get { code, at });
     report.compare(GET[kind], cases);
 
     let mut random = report.random(DAMAGED[kind]);
@@ -353,10 +372,10 @@ fn compare_kind(report: &mut Report, kind: usize) {
 
 pub fn compare(report: &mut Report) {
     let classes = (0..=10).flat_map(|class| [false, true].map(|bin| Code::Bin { class, bin }));
-    report.compare("get-bin", classes.clone().flat_map(|code| (0..4).map(move |at| Get { code: code.clone(), at })));
+    report.compare("get-bin", report.once(classes.clone()).flat_map(|code| (0..4).map(move |at| Get { code: code.clone(), at })));
     report.compare(
         "damaged-bin",
-        classes.flat_map(|code| {
+        report.once(classes).flat_map(|code| {
             let own = code.bins()[0] / 2;
             let foreign = (0..=255).filter(move |byte| byte / 2 != own).map(Harm::Class);
             foreign.chain([Harm::Cut]).map(move |harm| Damaged { code: code.clone(), at: 1, place: 0, harm })
@@ -365,12 +384,12 @@ pub fn compare(report: &mut Report) {
     for kind in 0..KINDS {
         compare_kind(report, kind);
     }
-    report.compare("over-range", over());
+    report.compare("over-range", report.once(over()));
     let long = (17..20).flat_map(|ones| {
         let egk = orders().map(move |order| Ones { code: Code::Egk { order, value: 0 }, ones });
         let counts = (1..=64).map(move |m| Ones { code: Code::Count { m, value: 0 }, ones: ones + 4 });
         let held = [Ones { code: Code::Held { order: 3, top: 32767, value: 0 }, ones }];
         egk.chain(counts).chain(held).chain([Ones { code: Code::Reuse { limit: 64, flags: vec![false; 128] }, ones }])
     });
-    report.compare("seventeen-ones", long);
+    report.compare("seventeen-ones", report.once(long));
 }

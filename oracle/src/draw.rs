@@ -245,6 +245,25 @@ pub fn with_config(random: &mut Random, config: Vec<i32>) -> Input {
     input
 }
 
+/// A block that fills its picture, of 1 to 64 colours that a tolerance of 1 tells apart, each about as often.
+pub fn colorful(random: &mut Random) -> Input {
+    let mut settings = config(random);
+    settings[set::QP] = QPS.start() + up_to(random, 137) as i32;
+    let mut input = with_config(random, settings);
+    let (sub_w, sub_h) = input.sub();
+    let count = 1 + up_to(random, LIMIT - 1);
+    let least = (1..).find(|side| side * side >= 2 * count).unwrap();
+    let size = (least + up_to(random, 32 - least)).div_ceil(sub_w) * sub_w;
+    input.source = vec![size, size, size / sub_w, size / sub_h, 0, 0, size];
+    let (apart, first) = (usize::from(input.most(0)) / LIMIT, random.next() as usize);
+    input.planes[0] = (0..size * size).map(|k| ((k + first) % count * apart) as u16).collect();
+    for c in 1..3 {
+        let chroma = random.below(u64::from(input.most(c)) + 1) as u16;
+        input.planes[c] = vec![chroma; if input.format() == 0 { 0 } else { size / sub_w * (size / sub_h) }];
+    }
+    input
+}
+
 /// The same input with the palette that source 000 finds for it, if it finds one.
 pub fn analysed(mut input: Input) -> Option<Input> {
     let config = input.source_config();

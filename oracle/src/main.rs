@@ -1,4 +1,4 @@
-//! Holds the port against source 000, case by case. `--list` writes the fixed lists of answers instead, and `--speed` measures both sides.
+//! Holds the port against source 000, case by case. `--long` goes on with new seeds, `--list` writes the fixed lists of answers instead, and `--speed` measures both sides.
 
 include!(concat!(env!("OUT_DIR"), "/source.rs"));
 
@@ -9,6 +9,7 @@ mod blocks;
 mod chain;
 mod code;
 mod codes;
+mod coverage;
 mod draw;
 mod list;
 mod list_blocks;
@@ -31,12 +32,13 @@ mod write;
 use report::Report;
 use std::path::Path;
 use std::process::ExitCode;
+use std::time::Duration;
 
-const USAGE: &str = "usage: oracle/run [--seed N] [--count N] [--only NAME] | --list | --speed";
+const USAGE: &str = "usage: oracle/run [--seed N] [--count N] [--only NAME] [--long MINUTES] | --list | --speed";
 
 fn main() -> ExitCode {
-    let (mut seed, mut count, mut only, mut list, mut speed) = (1, None, None, false, false);
-    let mut words = std::env::args().skip(1);
+    let (mut seed, mut count, mut only, mut long, mut list, mut speed) = (1, None, None, None, false, false);
+    let mut words = std::env::args().skip(1).peekable();
     while let Some(word) = words.next() {
         let mut number = || words.next().and_then(|n| n.parse::<u64>().ok());
         match word.as_str() {
@@ -52,6 +54,13 @@ fn main() -> ExitCode {
                 Some(name) => only = Some(name),
                 None => return usage(),
             },
+            "--long" => {
+                let minutes = words.next_if(|word| !word.starts_with("--")).map_or(Some(60), |n| n.parse().ok());
+                match minutes {
+                    Some(minutes) => long = Some(Duration::from_secs(60 * minutes)),
+                    None => return usage(),
+                }
+            }
             "--list" => list = true,
             "--speed" => speed = true,
             _ => return usage(),
@@ -73,19 +82,21 @@ fn main() -> ExitCode {
         speed::measure();
         return ExitCode::SUCCESS;
     }
-    let mut report = Report::new(seed, count, only);
-    scan::compare(&mut report);
-    quant::compare(&mut report);
-    codes::compare(&mut report);
-    update::compare(&mut report);
-    analysis::compare(&mut report);
-    assign::compare(&mut report);
-    chain::compare(&mut report);
-    smooth::compare(&mut report);
-    plan::compare(&mut report);
-    recon::compare(&mut report);
-    write::compare(&mut report);
-    read::compare(&mut report);
+    let mut report = Report::new(seed, count, only, long);
+    while report.goes_on() {
+        scan::compare(&mut report);
+        quant::compare(&mut report);
+        codes::compare(&mut report);
+        update::compare(&mut report);
+        analysis::compare(&mut report);
+        assign::compare(&mut report);
+        chain::compare(&mut report);
+        smooth::compare(&mut report);
+        plan::compare(&mut report);
+        recon::compare(&mut report);
+        write::compare(&mut report);
+        read::compare(&mut report);
+    }
     if report.finish() {
         ExitCode::SUCCESS
     } else {

@@ -176,6 +176,17 @@ pub fn maps(size: usize, most: usize) -> impl Iterator<Item = Vec<u16>> {
     })
 }
 
+/// Blocks of every size, all cells with one index or the columns in turn, with few entries and with as many as there are.
+pub fn even() -> impl Iterator<Item = Vec<u16>> {
+    (1..=32usize).flat_map(|size| {
+        [(2, false), (1, true), (3, false), (64, true)].into_iter().flat_map(move |(entries, escape)| {
+            let most = (entries - 1 + usize::from(escape)) as u16;
+            let columns = (0..size * size).map(move |k| (port::scan_pos(k, size) % 2) as u16 * most).collect();
+            [vec![0; size * size], vec![most; size * size], columns].map(|indices| own(size, entries, escape, &indices))
+        })
+    })
+}
+
 /// All maps of size 2 with M up to 4 at each of some rates, and all of size 3 with M up to 2 at one of them.
 fn small() -> impl Iterator<Item = Input> {
     let mut random = Random::new(3);
@@ -269,9 +280,10 @@ pub fn edits() -> Vec<Edit> {
 }
 
 pub fn compare(report: &mut Report) {
-    report.compare("plan-small", small().map(Call::<Plan>::new));
-    report.compare("plan-tie", ties().map(Call::<Plan>::new));
+    report.compare("plan-small", report.once(small()).map(Call::<Plan>::new));
+    report.compare("plan-tie", report.once(ties()).map(Call::<Plan>::new));
+    report.compare("plan-even", report.once(even()).map(|block| Call::<Plan>::new(plain(block, vec![1.0; 18]))));
     let mut random = report.random("plan");
     report.compare("plan", (0..report.blocks).map(move |_| Call::<Plan>::new(drawn(&mut random))));
-    report.compare("plan-refusals", refused::<Plan>(edits()));
+    report.compare("plan-refusals", report.once(refused::<Plan>(edits())));
 }

@@ -165,19 +165,19 @@ impl Case for Product {
 pub fn compare(report: &mut Report) {
     let kinds = || [false, true].into_iter().flat_map(|lossless| QPS.map(move |qp| (lossless, qp)));
     let depths = || kinds().flat_map(|(lossless, qp)| DEPTHS.map(|depth| (lossless, qp, depth)));
-    report.compare("step", QPS.map(|qp| Step { qp }));
-    report.compare("tolerance", kinds().map(|(lossless, qp)| Tolerance { lossless, qp }));
+    report.compare("step", report.once(QPS).map(|qp| Step { qp }));
+    report.compare("tolerance", report.once(kinds()).map(|(lossless, qp)| Tolerance { lossless, qp }));
 
     let mut random = report.random("dequant");
     let drawn: Vec<i32> = (0..report.count / 20).map(|_| random.next() as i32 >> random.below(32)).collect();
-    let levels: Vec<i32> = LEVELS.into_iter().chain(drawn).collect();
+    let levels: Vec<i32> = report.once(LEVELS).chain(drawn).collect();
     report.compare(
         "dequant",
         depths().flat_map(|(lossless, qp, depth)| levels.iter().map(move |&level| Dequant { lossless, qp, depth, level })),
     );
     report.compare(
         "quantize",
-        depths().flat_map(|(lossless, qp, depth)| (0..=most(depth) as u16).map(move |value| Quantize { lossless, qp, depth, value })),
+        report.once(depths()).flat_map(|(lossless, qp, depth)| (0..=most(depth) as u16).map(move |value| Quantize { lossless, qp, depth, value })),
     );
 
     let mut random = report.random("distance");

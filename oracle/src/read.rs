@@ -479,14 +479,15 @@ pub fn compare(report: &mut Report) {
         let runs: Vec<[u32; 4]> = case.lent.runs.chunks_exact(4).map(|run| [run[0], run[1], run[2], run[3]]).collect();
         written(case, &runs, 1)
     };
-    report.compare("second-small", small().map(kept).map(Call::<Second>::new));
+    report.compare("second-small", report.once(small()).map(kept).map(Call::<Second>::new));
     let mut random = report.random("second");
     report.compare("second", (0..count).map(move |_| Call::<Second>::new(drawn(&mut random, 1024))));
-    report.compare("read-back-small", small().map(kept).map(Call::<Back>::new));
+    report.compare("read-back-small", report.once(small()).map(kept).map(Call::<Back>::new));
+    report.compare("read-back-even", report.once(write::long()).map(kept).map(Call::<Back>::new));
     let mut random = report.random("read-back");
     report.compare("read-back", (0..count).map(move |_| Call::<Back>::new(drawn(&mut random, 1024))));
-    report.compare("read-back-longest", [Call::<Back>::new(kept(write::longest()))]);
-    report.compare("read-refusals", refusals());
+    report.compare("read-back-longest", report.once([write::longest()]).map(kept).map(Call::<Back>::new));
+    report.compare("read-refusals", report.once(refusals()));
 
     let tally = Rc::new(RefCell::new(Tally::default()));
     let told = |tally: &Rc<RefCell<Tally>>| {
@@ -522,7 +523,7 @@ pub fn compare(report: &mut Report) {
         grown(&mut random, &base)
     });
     report.compare("read-grown", grown.map(told(&tally)));
-    if !tally.borrow().0.is_empty() {
+    if report.is_first() && !tally.borrow().0.is_empty() {
         tally.borrow().print("spoilt lists");
     }
 }

@@ -2,6 +2,7 @@
 
 use crate::analysis::all;
 use crate::blocks::{at, set, side, Input, Lent, BLOCK, INDICES, LEVELS, PALETTE};
+use crate::coverage::Coverage;
 use crate::draw::{analysed, assigned, input, one_in, one_of, up_to, whole};
 use crate::palette::{reconstruct, ReconTarget};
 use crate::refusals::{self, Edit};
@@ -82,6 +83,9 @@ impl Case for Target {
     fn port(&self) -> (u8, Planes) {
         let mut planes = self.input.planes.clone();
         (port(&self.input, self.strides, &mut planes), planes)
+    }
+    fn seen(&self, answer: &(u8, Planes), coverage: &mut Coverage) {
+        coverage.call("reconstruct", &self.input, answer.0, &self.input.lent);
     }
     /// One index less, no transposition.
     fn smaller(&self) -> Vec<Target> {
@@ -272,10 +276,10 @@ fn refused() -> impl Iterator<Item = Target> {
 }
 
 pub fn compare(report: &mut Report) {
-    report.compare("recon-small", small());
+    report.compare("recon-small", report.once(small()));
     let mut random = report.random("recon");
     report.compare("recon", (0..report.blocks).map(move |_| drawn(&mut random)));
-    report.compare("recon-refusals", refused());
+    report.compare("recon-refusals", report.once(refused()));
 }
 
 /// Medians of both sides in µs a block, the block as source 000 made it; clipped: 20 columns and 20 rows of it lie in the planes.

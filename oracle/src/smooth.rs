@@ -214,10 +214,10 @@ fn refusals() -> impl Iterator<Item = Refusal<Smooth>> {
 }
 
 pub fn compare(report: &mut Report) {
-    report.compare("smooth-small", small().map(Call::<Smooth>::new));
+    report.compare("smooth-small", report.once(small()).map(Call::<Smooth>::new));
     let mut random = report.random("smooth");
     report.compare("smooth", (0..report.blocks).map(move |_| Call::<Smooth>::new(drawn(&mut random))));
     let mut random = report.random("smooth-budget");
     report.compare("smooth-budget", (0..report.blocks / 16).flat_map(move |_| at_budget(drawn(&mut random))).map(Call::<Smooth>::new));
-    report.compare("smooth-refusals", refusals());
+    report.compare("smooth-refusals", report.once(refusals()));
 }

@@ -129,7 +129,7 @@ pub fn edits() -> Vec<Edit> {
 }
 
 pub fn compare(report: &mut Report) {
-    report.compare("update-few", few().map(Call::<Update>::new));
+    report.compare("update-few", report.once(few()).map(Call::<Update>::new));
     let mut random = report.random("update");
     report.compare(
         "update",
@@ -142,5 +142,5 @@ pub fn compare(report: &mut Report) {
     );
     let (mut random, mut before) = (report.random("update-chained"), None);
     report.compare("update-chained", (0..report.blocks).map(move |_| Call::<Update>::new(chained(&mut random, &mut before))));
-    report.compare("update-refusals", refused::<Update>(edits()));
+    report.compare("update-refusals", report.once(refused::<Update>(edits())));
 }

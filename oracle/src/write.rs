@@ -5,7 +5,7 @@ use crate::blocks::{at, triples, Call, Input, Lent, Op, BLOCK, FLAGS, INDICES, L
 use crate::draw::{analysed, assigned, input, one_in, one_of, up_to, whole};
 use crate::palette::harness::blocks as private;
 use crate::palette::{plan_runs, write_palette_cu, PaletteConfig};
-use crate::plan::{maps, own, rates};
+use crate::plan::{even, maps, own, rates};
 use crate::refusals::{self, refused, Edit};
 use crate::report::{Random, Report};
 use crate::runs::{self, Map, Run, Ways};
@@ -273,6 +273,16 @@ pub fn small() -> impl Iterator<Item = Input> {
     })
 }
 
+/// Maps of one index and of columns, in the longest runs.
+pub fn long() -> impl Iterator<Item = Input> {
+    even().map(|block| {
+        let runs = runs::greedy(&Ways::new(&map(&block)));
+        let mut case = plain(block);
+        lend(&mut case, &runs, 1);
+        case
+    })
+}
+
 /// Each set of escapes of size 2, in each format, transposed or not, lossless or not, with one entry or none.
 pub fn escapes() -> impl Iterator<Item = Input> {
     (0..4 * 2 * 2 * 17).map(|word: u16| {
@@ -394,13 +404,14 @@ fn lent(mut edit: crate::blocks::Refusal<Write>) -> crate::blocks::Refusal<Write
 }
 
 pub fn compare(report: &mut Report) {
-    report.compare("write-small", small().map(Call::<Write>::new));
-    report.compare("write-escapes", escapes().map(Call::<Write>::new));
+    report.compare("write-small", report.once(small()).map(Call::<Write>::new));
+    report.compare("write-escapes", report.once(escapes()).map(Call::<Write>::new));
+    report.compare("write-even", report.once(long()).map(Call::<Write>::new));
     let mut random = report.random("write");
     report.compare("write", (0..report.blocks).map(move |_| Call::<Write>::new(drawn(&mut random))));
     let most = longest();
     assert_eq!(most.lent.bins.len(), LONGEST);
-    report.compare("write-longest", [Call::<Write>::new(most)]);
+    report.compare("write-longest", report.once([Call::<Write>::new(most)]));
     let mut random = report.random("write-broken");
     let due = RefCell::new([0; 16]);
     let cases = (0..report.blocks as u64).map(|k| {
@@ -413,5 +424,5 @@ pub fn compare(report: &mut Report) {
     if all > 0 {
         println!("broken run lists: {broken} refused by 8, {} that still keep the rules", all - broken);
     }
-    report.compare("write-refusals", refused::<Write>(edits()).map(lent));
+    report.compare("write-refusals", report.once(refused::<Write>(edits()).map(lent)));
 }
