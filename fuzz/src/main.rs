@@ -13,7 +13,7 @@ use std::sync::atomic::{AtomicU64, Ordering::Relaxed};
 use std::time::{Duration, Instant};
 use world::World;
 
-const USAGE: &str = "usage: fuzz/run [--seed N] [--calls N] [--round N]";
+const USAGE: &str = "usage: fuzz/run [--seed N] [--calls N] [--minutes N] [--round N]";
 /// Calls of a round after the first few; a round has arguments and random numbers of its own.
 const ROUND: u64 = 64;
 
@@ -113,13 +113,14 @@ impl Fuzz {
 }
 
 fn main() -> ExitCode {
-    let (mut seed, mut calls, mut round) = (1, 10_000_000, None);
+    let (mut seed, mut calls, mut minutes, mut round) = (1, 10_000_000, 60, None);
     let mut words = std::env::args().skip(1);
     while let Some(word) = words.next() {
         let number = words.next().and_then(|n| n.parse::<u64>().ok());
         match (word.as_str(), number) {
             ("--seed", Some(n)) => seed = n,
             ("--calls", Some(n)) => calls = n,
+            ("--minutes", Some(n)) => minutes = n,
             ("--round", Some(n)) => round = Some(n),
             _ => {
                 eprintln!("{USAGE}");
@@ -135,24 +136,15 @@ fn main() -> ExitCode {
     }
     let mut fuzz = Fuzz::new(seed);
     let (began, mut shown) = (Instant::now(), Instant::now());
-    match round {
-        Some(round) => fuzz.round(round),
-        None => {
-            for round in 0.. {
-                if fuzz.calls >= calls {
-                    break;
-                }
-                fuzz.round(round);
-                if shown.elapsed() > Duration::from_secs(5) {
-                    shown = Instant::now();
-                    println!(
-                        "{} calls, {:.0} a second, {} wrong",
-                        fuzz.calls,
-                        fuzz.calls as f64 / began.elapsed().as_secs_f64(),
-                        fuzz.wrong
-                    );
-                }
-            }
+    let rounds = round.map_or(0..u64::MAX, |round| round..round + 1);
+    for round in rounds {
+        if fuzz.calls >= calls || began.elapsed() > Duration::from_secs(60 * minutes) {
+            break;
+        }
+        fuzz.round(round);
+        if shown.elapsed() > Duration::from_secs(5) {
+            shown = Instant::now();
+            println!("{} calls, {:.0} a second, {} wrong", fuzz.calls, fuzz.calls as f64 / began.elapsed().as_secs_f64(), fuzz.wrong);
         }
     }
     fuzz.print();

@@ -12,7 +12,7 @@ pub trait Case: Clone + Debug {
     fn source(&self) -> Self::Answer;
     /// What the port answers.
     fn port(&self) -> Self::Answer;
-    /// Counts what of the domain the case is, by the port's answer.
+    /// Counts what of the domain the case is, by the answer in which both sides agree.
     fn seen(&self, _answer: &Self::Answer, _coverage: &mut Coverage) {}
     /// Smaller inputs of the same domain, to find the least one that disagrees.
     fn smaller(&self) -> Vec<Self> {
@@ -97,8 +97,9 @@ impl Report {
                 }
             }
             let (due, answer) = (case.source(), case.port());
-            case.seen(&answer, &mut self.coverage);
-            if due != answer {
+            if due == answer {
+                case.seen(&answer, &mut self.coverage);
+            } else {
                 wrong += 1;
                 if wrong == 1 {
                     println!("{name}: a disagreement, seed {}", self.seed);
