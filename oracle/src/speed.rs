@@ -2,16 +2,18 @@
 
 use crate::analysis::Analyze;
 use crate::assign::{Assign, Figure};
+use crate::bins::Bins;
 use crate::blocks::{Input, Lent, Op, MOST_ENTRIES};
 use crate::cabac::contexts::PaletteContexts;
 use crate::palette::{
-    analyze_palette, assign_indices, harness, plan_runs, smooth_indices, ColorIndex, PaletteConfig, PaletteCu, PalettePredictor, PaletteRateModel, PaletteRun,
+    analyze_palette, assign_indices, harness, plan_runs, smooth_indices, write_palette_cu, ColorIndex, PaletteConfig, PaletteCu, PalettePredictor, PaletteRateModel, PaletteRun,
 };
 use crate::plan::Plan;
 use crate::recon;
 use crate::report::Random;
 use crate::smooth::Smooth;
 use crate::update::Update;
+use crate::write::Write;
 use std::hint::black_box;
 use std::time::Instant;
 
@@ -19,6 +21,8 @@ const SIZE: usize = 32;
 /// Blocks across and down the picture.
 const ACROSS: usize = 4;
 const ROUNDS: usize = 250;
+/// Room for the bins of any block.
+const BINS: usize = 100_000;
 
 /// A picture of flat patches, with a track one cell wide through them.
 fn map(colors: usize, format: i32) -> Vec<Input> {
@@ -40,6 +44,7 @@ fn map(colors: usize, format: i32) -> Vec<Input> {
             let mut lent = Lent::default();
             lent.set_entries(&known);
             (lent.runs, lent.count, lent.total) = (vec![0; 4 * SIZE * SIZE], vec![0], vec![0]);
+            (lent.bins, lent.used) = (vec![0; BINS], vec![0]);
             Input {
                 config: vec![3, format, 8, 8, 22, 22, 22, 0],
                 source: vec![side, side, cw, ch, k % ACROSS * SIZE, k / ACROSS * SIZE, SIZE],
@@ -63,6 +68,7 @@ struct Buffers {
     cu: Box<PaletteCu>,
     model: PaletteRateModel,
     runs: Vec<PaletteRun>,
+    bins: Bins,
 }
 
 impl Buffers {
@@ -74,6 +80,7 @@ impl Buffers {
             cu: PaletteCu::new(),
             model: harness::blocks::model(&input.rates),
             runs: Vec::with_capacity(SIZE * SIZE),
+            bins: Bins(Vec::with_capacity(BINS)),
             config,
         }
     }
@@ -93,7 +100,8 @@ fn medians(inputs: &mut [Input], mut source: impl FnMut(&Input, &mut Buffers), p
     for (input, buffers) in inputs.iter_mut().zip(&mut buffers) {
         buffers.analyze(input);
         buffers.assign(input);
-        assert_eq!((Analyze::port(input), Assign::port(input)), (0, 0));
+        plan(input, buffers);
+        assert_eq!((Analyze::port(input), Assign::port(input), Plan::port(input)), (0, 0, 0));
     }
     let made: Vec<(Box<PaletteCu>, Vec<u16>)> = inputs.iter().zip(&buffers).map(|(input, buffers)| (buffers.cu.clone(), input.lent.block.clone())).collect();
     // a block at a time, as assignment made it, each side first as often as the other
@@ -144,6 +152,11 @@ fn plan(_: &Input, b: &mut Buffers) {
     black_box(plan_runs(&b.cu, &b.model, &mut b.runs));
 }
 
+fn write(input: &Input, b: &mut Buffers) {
+    b.bins.0.clear();
+    write_palette_cu(&mut b.bins, &b.cu, &b.config, input.source[4], input.source[5], &b.runs);
+}
+
 fn line(what: &str, (theirs, ours): (f64, f64)) {
     println!("  {what:24} source 000 {theirs:7.2} µs, port {ours:7.2} µs, ratio {:.2}", ours / theirs);
 }
@@ -162,12 +175,24 @@ pub fn measure() {
             |input| Analyze::port(input).max(Assign::port(input)),
         );
         line("analysis and assignment", both);
+        let chain = medians(
+            &mut inputs,
+            |input, b| {
+                b.analyze(input);
+                b.assign(input);
+                plan(input, b);
+                write(input, b);
+            },
+            |input| Analyze::port(input).max(Assign::port(input)).max(Plan::port(input)).max(Write::port(input)),
+        );
+        line("and planning and writing", chain);
         line("analysis", medians(&mut inputs, |input, b| b.analyze(input), Analyze::port));
         line("assignment", medians(&mut inputs, |input, b| b.assign(input), Assign::port));
         line("error figure", medians(&mut inputs, figure, Figure::port));
         line("update", medians(&mut inputs, update, Update::port));
         line("smoothing", medians(&mut inputs, smooth, Smooth::port));
         line("planning", medians(&mut inputs, plan, Plan::port));
+        line("writing", medians(&mut inputs, write, Write::port));
         for (what, clipped, transposed) in [("reconstruction", false, false), ("clipped", true, false), ("transposed", false, true), ("clipped, transposed", true, true)] {
             line(what, recon::times(&inputs, ROUNDS, clipped, transposed));
         }
