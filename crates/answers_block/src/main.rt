@@ -6,7 +6,7 @@ use exports_analysis::velomitra_analyze_palette;
 use exports_analysis::velomitra_analyze_with;
 use exports_block::velomitra_assign_indices;
 use exports_block::velomitra_palette_sse;
-use exports_block::velomitra_update;
+use exports_update::velomitra_update;
 use libc::STDOUT_FILENO;
 
 // A byte as a number.

@@ -8,17 +8,9 @@ use lib.Seq.{sets}
 use Rattle.assigning.specs.declared.Assigned.{Assigned}
 use Rattle.assigning.specs.Assigning.{assignOf}
 use Rattle.calls.specs.Calls.{answered}
-use Rattle.flat.specs.Flat.{blockOf, predictorOf, configOf, sourceOf, flatBlock, flatPredictor}
-use Rattle.predictor.specs.declared.Updated.{Updated}
-use Rattle.predictor.specs.Update.{updateOf}
+use Rattle.flat.specs.Flat.{blockOf, configOf, sourceOf, flatBlock}
 use Rattle.sse.specs.declared.Figure.{Figure}
 use Rattle.sse.specs.Sse.{sseOf}
-
-abbrev pub updateLaid : Updated → List ℕ → ℕ × List ℕ
-updateLaid done list = answered (done .refusal) list (sets list 0 (flatPredictor (done .predictor)))
-
-unfoldable pub updateOut : List ℕ → List ℕ → ℕ → ℕ × List ℕ
-updateOut predictor block limit = updateLaid (updateOf (predictorOf predictor) (blockOf block) limit) predictor
 
 abbrev pub assignLaid : Assigned → List ℕ → ℕ × List ℕ
 assignLaid done list = answered (done .refusal) list (sets list 0 (flatBlock (done .cu)))

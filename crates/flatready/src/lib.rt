@@ -1,0 +1,129 @@
+// Whether an update refuses nothing, seen from the lists of numbers without making the records: a quick test that may say no of a call that is in order, never yes of one that is not.
+ghost use mathlib.Core.Path.{_≡_};
+ghost use mathlib.Core.Bool.{true};
+ghost use Prim.Native.Nat.{_+_, _*_, _≤_, min};
+ghost use lib.Dec.{leb};
+ghost use lib.ListN.{length, take};
+ghost use Rattle.base.specs.Pick.{pick};
+ghost use Rattle.base.specs.Tests.{upTo};
+ghost use Rattle.h265.specs.Reuse.{trues};
+ghost use Rattle.flat.specs.Flat.{number, byte, blockOf};
+ghost use Rattle.model.specs.Domain.{most};
+ghost use Rattle.model.specs.Whole.{cellHolds};
+ghost use Rattle.flatready.specs.Ready.{framedOf, levelMost, Ready};
+use domain::depth_in;
+use domain::even_in;
+use domain::most_in;
+use domain::size_in;
+
+// A number held to a byte.
+fn byte(x: u16) -> u8
+    ensures { λ r. ⌜ r ≡ byte x ⌝ }
+{
+    if x < 255 {
+        return x as u8;
+    }
+    255
+}
+
+// Whether n numbers from a place on are at most m.
+fn at_most(list: &[u16], from: usize, n: usize, m: u16) -> bool
+    requires { ⌜ (from + n ≤ length (now list)) × (from ≤ 4432) × (n ≤ 4432) ⌝ }
+    ensures { λ r. ⌜ r ≡ upTo n (λ i. leb (number (now (list .entry)) (from + i)) m) ⌝ }
+{
+    let mut ok = true;
+    let mut i: usize = 0;
+    while i < n {
+        let x = list[from + i];
+        ok = ok & (x <= m);
+        i += 1;
+    }
+    ok
+}
+
+// How many of the first `count` flags of a block are on.
+fn reused(list: &[u16], count: usize) -> usize
+    requires { ⌜ (count ≤ 128) × (336 ≤ length (now list)) ⌝ }
+    ensures { λ r. ⌜ (r ≡ trues (take count (blockOf (now (list .entry)) .reused))) × (r ≤ 128) ⌝ }
+{
+    let mut t: usize = 0;
+    let mut i: usize = 0;
+    while i < count {
+        if list[208 + i] == 1 {
+            t += 1;
+        }
+        i += 1;
+    }
+    t
+}
+
+// The clauses on a block's numbers.
+fn framed(list: &[u16]) -> bool
+    requires { ⌜ 16 ≤ length (now list) ⌝ }
+    ensures { λ r. ⌜ r ≡ framedOf (now (list .entry)) ⌝ }
+{
+    let size = list[0] as usize;
+    let format = byte(list[1]);
+    let luma = byte(list[2]);
+    let chroma = byte(list[3]);
+    size_in(size)
+        & even_in(format, size)
+        & (format <= 3)
+        & depth_in(luma)
+        & depth_in(chroma)
+        & (list[5] <= 64)
+        & (list[10] <= 16)
+}
+
+// A bound that levels in range of the luma depth have.
+fn level_most(list: &[u16]) -> u16
+    requires { ⌜ 16 ≤ length (now list) ⌝ }
+    ensures { λ r. ⌜ r ≤ levelMost (now (list .entry)) ⌝ }
+{
+    if list[4] == 1 {
+        return most_in(byte(list[2]));
+    }
+    32767
+}
+
+// Whether all indices are of entries, or else escapes are on and every level is in range.
+fn cells_ready(list: &[u16], cells: usize, n: u16) -> bool
+    requires { ⌜ (4432 ≤ length (now list)) × (cells ≤ 1024) × (1 ≤ n) × (n ≤ 64) × (n ≡ number (now list) 5) × (number (now list) 2 ≡ number (now list) 3) ⌝ }
+    ensures { λ r. ⌜ (r ≡ true → upTo cells (cellHolds (blockOf (now (list .entry)))) ≡ true) ⌝ }
+{
+    if at_most(list, 336, cells, n - 1) {
+        return true;
+    }
+    if list[8] == 1 {
+        let m = level_most(list);
+        return at_most(list, 336, cells, n) & at_most(list, 1360, 3 * cells, m);
+    }
+    false
+}
+
+// Yes only where the lists are whole and the update refuses nothing.
+pub fn ready(predictor: &[u16], block: &[u16], limit: usize) -> bool
+    ensures { λ r. ⌜ (r ≡ true → Ready (now (predictor .entry)) (now (block .entry)) limit) ⌝ }
+{
+    if block.len() < 4432 {
+        return false;
+    }
+    if predictor.len() < 385 {
+        return false;
+    }
+    let n = block[5];
+    let count = block[6] as usize;
+    let size = predictor[0] as usize;
+    if framed(block) & (count <= 128) {
+        if (1 <= n) & (1 <= block[1]) & (block[2] == block[3]) & (size <= 128) & (limit <= 128) {
+            let side = block[0] as usize;
+            let m = most_in(byte(block[2]));
+            let t = reused(block, count);
+            return (t + block[7] as usize == n as usize)
+                & at_most(block, 16, 3 * n as usize, m)
+                & at_most(predictor, 1, 3 * size, m)
+                & cells_ready(block, side * side, n);
+        }
+    }
+    false
+}
