@@ -1,0 +1,30 @@
+-- `landcover::sample`: the product is small.
+use Prim.Native.Nat.{_*_, _≤_}
+use native.Mathlib.Nat.{mul-le-mul}
+use native.Mathlib.Omega.{arith}
+use borrow.Author.Needs.{needs}
+use Rattle.landcover.proofs.sample.Statement.{statement}
+use Rattle.landcover.proofs.sample.Tie as tie
+use Rattle.landcover.proofs.sample.Reads as reads
+use Rattle.landcover.proofs.sample.Lts as lts
+
+mul-v : tie.Need-mul-v
+mul-v c = let q : c .args .kind * c .args .by ≤ 121 * 255 = mul-le-mul (c .pre .0) (c .pre .1) in omega arith
+
+cast-v : tie.Need-cast-v
+cast-v c = search needs
+
+mul-result : tie.Need-mul-result
+mul-result c = search needs
+
+add-result : tie.Need-add-result
+add-result c = search needs
+
+returns : tie.Need-returns
+returns c = search needs
+
+returns-2 : tie.Need-returns-2
+returns-2 c = search needs
+
+pub sample-spec : {M : Type 1} → statement M
+sample-spec = tie.close (tie.spec mul-v cast-v mul-result add-result returns returns-2)
