@@ -8,9 +8,8 @@ use std::time::Instant;
 
 pub const SIZES: [usize; 3] = [8, 16, LARGEST];
 pub const FORMATS: [(i32, &str); 2] = [(3, "4:4:4"), (1, "4:2:0")];
-/// Rounds of two calls on each block: of the largest blocks of a map, and of others.
-const MANY: usize = 250;
-const FEW: usize = 100;
+/// Calls of a side on each block.
+const CALLS_A_BLOCK: usize = 500;
 
 /// Blocks of one make.
 struct Kind {
@@ -52,9 +51,9 @@ fn timed(call: impl FnOnce()) -> f64 {
 }
 
 /// Medians of a call, less what timing nothing takes: a block at a time, each side first as often as the other.
-fn medians(blocks: &mut [Block], call: &Call, rounds: usize) -> Times {
+fn medians(blocks: &mut [Block], call: &Call) -> Times {
     let (mut theirs, mut ours, mut none) = (Vec::new(), Vec::new(), Vec::new());
-    for round in 0..2 * rounds {
+    for round in 0..CALLS_A_BLOCK {
         for block in &mut *blocks {
             block.restore();
             let mut first = |block: &mut Block| theirs.extend(call.source.map(|source| timed(|| source(block))));
@@ -76,13 +75,12 @@ fn medians(blocks: &mut [Block], call: &Call, rounds: usize) -> Times {
 
 /// Each call begins with blocks of its own.
 fn column(kind: &Kind, format: i32, size: usize, calls: &[&Call]) -> Column {
-    let rounds = if kind.is_map && size == LARGEST { MANY } else { FEW };
     let picture = (kind.picture)();
     let made = || picture.blocks(format, size).into_iter().map(Block::new).collect::<Vec<Block>>();
     let time = |call: &&Call| {
         let mut blocks = made();
         blocks.iter_mut().for_each(call.ready);
-        medians(&mut blocks, call, rounds)
+        medians(&mut blocks, call)
     };
     let times = calls.iter().map(time).collect();
     let blocks = made();
@@ -124,15 +122,18 @@ fn sizes(kind: &Kind, calls: &[&Call], largest: Vec<Column>) -> Vec<Column> {
 /// The largest blocks of a map, then a table of each kind. Answers whether there was anything to measure.
 pub fn measure(only: Option<&str>) -> bool {
     let (kinds, calls) = wanted(only.unwrap_or(""));
-    println!("medians of {} calls, blocks of {LARGEST} × {LARGEST} of a map at QP 22:", 2 * MANY * SPOTS);
+    if calls.is_empty() {
+        println!("no kind of block and no call has that name");
+        return false;
+    }
+    if kinds[0].is_map {
+        println!("medians of {} calls, blocks of {LARGEST} × {LARGEST} of a map at QP 22:", CALLS_A_BLOCK * SPOTS);
+    }
     let known: Vec<Vec<Column>> = kinds.iter().map(|kind| largest(kind, &calls)).collect();
-    println!(
-        "\nmedians of {} calls, but for those above: million cells a second, source 000 / port, and the ratio of their times;",
-        2 * FEW * SPOTS
-    );
+    println!("\nmillion cells a second, source 000 / port, and the ratio of their times;");
     println!("growth: a cell's time in blocks of 32 over that in blocks of 8\n");
     for (kind, known) in kinds.iter().zip(known) {
         table::print(kind.name, &calls, &sizes(kind, &calls, known));
     }
-    !calls.is_empty()
+    true
 }
