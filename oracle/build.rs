@@ -1,4 +1,4 @@
-//! Hands source 000 to the compiler from where it stands, with the one declared edit, and links the port.
+//! Hands source 000 to the compiler from where it stands, with the one declared edit.
 
 use std::path::{Path, PathBuf};
 use std::{env, fs};
@@ -30,15 +30,6 @@ fn main() {
         out.join("palette.rs"),
     );
     fs::write(out.join("source.rs"), modules).unwrap();
-
-    let port = here.join("../target/staticlib");
-    println!("cargo:rustc-link-search=native={}", port.display());
-    for library in read(&here.join("../crates.txt")).lines().filter_map(|line| line.split_once(':')) {
-        if library.0.starts_with("exports") {
-            println!("cargo:rerun-if-changed={}", port.join(format!("lib{}.a", library.0)).display());
-            println!("cargo:rustc-link-lib=static={}", library.0);
-        }
-    }
 }
 
 fn read(file: &Path) -> String {

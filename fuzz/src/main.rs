@@ -1,6 +1,8 @@
 //! Calls every exported function with arbitrary arguments, and looks at the memory after each call.
 
+mod blocks;
 mod calls;
+mod leaves;
 mod memory;
 mod random;
 mod world;

@@ -1,24 +1,25 @@
 //! Random numbers, and arguments spoilt with them.
 
-/// splitmix64.
-pub struct Random(u64);
+/// The numbers that arguments are drawn by.
+pub struct Random(common::Random);
 
 impl Random {
     pub fn new(seed: u64) -> Random {
-        Random(seed)
+        Random(common::Random::new(seed))
     }
 
     pub fn next(&mut self) -> u64 {
-        self.0 = self.0.wrapping_add(0x9E37_79B9_7F4A_7C15);
-        let mut z = self.0;
-        z = (z ^ z >> 30).wrapping_mul(0xBF58_476D_1CE4_E5B9);
-        z = (z ^ z >> 27).wrapping_mul(0x94D0_49BB_1331_11EB);
-        z ^ z >> 31
+        self.0.next()
+    }
+
+    /// Of few or many bits, small ones as likely as large ones.
+    pub fn wide(&mut self) -> u64 {
+        self.0.wide()
     }
 
     /// A number below n.
     pub fn below(&mut self, n: usize) -> usize {
-        (self.next() % n as u64) as usize
+        self.0.below(n as u64) as usize
     }
 
     /// A number from one to another.
@@ -32,12 +33,6 @@ impl Random {
 
     pub fn of<T: Copy>(&mut self, list: &[T]) -> T {
         list[self.below(list.len())]
-    }
-
-    /// Of few or many bits, small ones as likely as large ones.
-    pub fn wide(&mut self) -> u64 {
-        let shift = self.below(64);
-        self.next() >> shift
     }
 }
 

@@ -1,13 +1,7 @@
 //! Arguments that every call takes, drawn: settings, a picture with a block in it, predictor, counter, rates, and a block that holds together.
 
 use crate::random::Random;
-
-pub const BLOCK: usize = 4432;
-const PALETTE: usize = 16;
-const FLAGS: usize = 208;
-const INDICES: usize = 336;
-const LEVELS: usize = 1360;
-const SLOTS: usize = 256;
+use common::layout::{set, side, BLOCK, FLAGS, INDICES, LEVELS, MOST_ENTRIES, PALETTE, PREDICTOR, SLOTS};
 
 /// The lists that calls are lent, as crates/flat and crates/flatplan lay them out.
 #[derive(Default)]
@@ -47,7 +41,7 @@ impl World {
     }
 
     pub fn size(&self) -> usize {
-        self.source[6]
+        self.source[side::SIZE]
     }
 
     fn cells(&self) -> usize {
@@ -55,11 +49,11 @@ impl World {
     }
 
     fn format(&self) -> i32 {
-        self.config[1]
+        self.config[set::FORMAT]
     }
 
     fn most(&self, c: usize) -> usize {
-        (1 << self.config[if c == 0 { 2 } else { 3 }]) - 1
+        (1 << self.config[if c == 0 { set::LUMA } else { set::CHROMA }]) - 1
     }
 
     fn settings(&mut self, random: &mut Random) {
@@ -83,14 +77,14 @@ impl World {
         let colors: Vec<[u16; 3]> = (0..count).map(|_| [0, 1, 2].map(|c| random.below(self.most(c) + 1) as u16)).collect();
         let patch = random.within(1, 4);
         for c in 0..3 {
-            let len = self.strides[c.min(1)] * self.source[if c == 0 { 1 } else { 3 }];
+            let len = self.strides[c.min(1)] * self.source[if c == 0 { side::YH } else { side::CH }];
             let places = if c > 0 && self.format() == 0 { 0 } else { len };
             self.planes[c] = (0..places).map(|k| colors[k / patch % count][c]).collect();
         }
-        let size = if random.one_in(4) { 128 } else { random.below(9) };
+        let size = if random.one_in(4) { MOST_ENTRIES } else { random.below(9) };
         let color = |k: usize| if self.format() == 0 { [colors[k % count][0], 0, 0] } else { colors[k % count] };
         self.predictor = [size as u16].into_iter().chain((0..size).flat_map(color)).collect();
-        self.predictor.resize(385, 0);
+        self.predictor.resize(PREDICTOR, 0);
     }
 
     fn counter(&mut self, random: &mut Random) {
@@ -114,7 +108,8 @@ impl World {
         }
         let escape = entries == 0 || random.one_in(2);
         let transpose = entries > 0 && random.one_in(2);
-        let head = [self.size(), self.format() as usize, self.config[2] as usize, self.config[3] as usize, self.config[7] as usize];
+        let told = |place: usize| self.config[place] as usize;
+        let head = [self.size(), told(set::FORMAT), told(set::LUMA), told(set::CHROMA), told(set::LOSSLESS)];
         let more = [entries, flags, entries - reused, escape.into(), transpose.into(), random.below(17)];
         head.into_iter().chain(more).zip(&mut list).for_each(|(number, place)| *place = number as u16);
         for k in 0..3 * entries {
@@ -126,7 +121,7 @@ impl World {
             let fresh = k == 0 || random.one_in(long);
             list[INDICES + k] = if fresh { random.below(most + 1) as u16 } else { list[INDICES + k - 1] };
             for c in 0..3 {
-                let top = if self.config[7] == 1 { self.most(c) } else { 32767 };
+                let top = if self.config[set::LOSSLESS] == 1 { self.most(c) } else { 32767 };
                 list[LEVELS + 3 * k + c] = (random.wide() as usize % (top + 1)) as u16;
             }
         }

@@ -1,59 +1,12 @@
 //! Palettes from planes, with the colour counter after them.
 
-use crate::blocks::{set, side, Call, Input, Op};
+use crate::blocks::{drawn, given, set, side, Input, Op};
 use crate::draw::{colorful, input, one_of};
 use crate::palette::{analyze_palette, harness, PaletteCu};
+use crate::port;
 use crate::quant::QPS;
 use crate::refusals::{self, refused, Edit};
 use crate::report::{Random, Report};
-
-extern "C" {
-    fn velomitra_analyze_palette(
-        y: *const u16,
-        y_len: usize,
-        cb: *const u16,
-        cb_len: usize,
-        cr: *const u16,
-        cr_len: usize,
-        config: *const i32,
-        config_len: usize,
-        source: *const usize,
-        source_len: usize,
-        predictor: *const u16,
-        predictor_len: usize,
-        keys: *mut u64,
-        keys_len: usize,
-        entry: *mut u16,
-        entry_len: usize,
-        stamp: *mut u32,
-        stamp_len: usize,
-        block: *mut u16,
-        block_len: usize,
-    ) -> u8;
-    fn velomitra_analyze_with(
-        y: *const u16,
-        y_len: usize,
-        cb: *const u16,
-        cb_len: usize,
-        cr: *const u16,
-        cr_len: usize,
-        config: *const i32,
-        config_len: usize,
-        source: *const usize,
-        source_len: usize,
-        predictor: *const u16,
-        predictor_len: usize,
-        tolerance: u64,
-        keys: *mut u64,
-        keys_len: usize,
-        entry: *mut u16,
-        entry_len: usize,
-        stamp: *mut u32,
-        stamp_len: usize,
-        block: *mut u16,
-        block_len: usize,
-    ) -> u8;
-}
 
 /// Source 000 with a QP in place of the luma QP, or its own.
 fn source(input: &mut Input, qp: Option<i32>) -> u8 {
@@ -86,31 +39,8 @@ impl Op for Analyze {
 
     fn port(input: &mut Input) -> u8 {
         let ([y, cb, cr], lent) = (&input.planes, &mut input.lent);
-        // SAFETY: as in port.rs
-        unsafe {
-            velomitra_analyze_palette(
-                y.as_ptr(),
-                y.len(),
-                cb.as_ptr(),
-                cb.len(),
-                cr.as_ptr(),
-                cr.len(),
-                input.config.as_ptr(),
-                input.config.len(),
-                input.source.as_ptr(),
-                input.source.len(),
-                lent.predictor.as_ptr(),
-                lent.predictor.len(),
-                lent.keys.as_mut_ptr(),
-                lent.keys.len(),
-                lent.entry.as_mut_ptr(),
-                lent.entry.len(),
-                lent.stamp.as_mut_ptr(),
-                lent.stamp.len(),
-                lent.block.as_mut_ptr(),
-                lent.block.len(),
-            )
-        }
+        let counter = (&mut lent.keys, &mut lent.entry, &mut lent.stamp);
+        port::analyze_palette(y, cb, cr, &input.config, &input.source, &lent.predictor, counter.0, counter.1, counter.2, &mut lent.block)
     }
 }
 
@@ -127,32 +57,9 @@ impl Op for Within {
 
     fn port(input: &mut Input) -> u8 {
         let ([y, cb, cr], lent) = (&input.planes, &mut input.lent);
-        // SAFETY: as in port.rs
-        unsafe {
-            velomitra_analyze_with(
-                y.as_ptr(),
-                y.len(),
-                cb.as_ptr(),
-                cb.len(),
-                cr.as_ptr(),
-                cr.len(),
-                input.config.as_ptr(),
-                input.config.len(),
-                input.source.as_ptr(),
-                input.source.len(),
-                lent.predictor.as_ptr(),
-                lent.predictor.len(),
-                input.tolerance,
-                lent.keys.as_mut_ptr(),
-                lent.keys.len(),
-                lent.entry.as_mut_ptr(),
-                lent.entry.len(),
-                lent.stamp.as_mut_ptr(),
-                lent.stamp.len(),
-                lent.block.as_mut_ptr(),
-                lent.block.len(),
-            )
-        }
+        let counter = (&mut lent.keys, &mut lent.entry, &mut lent.stamp);
+        let (config, source) = (&input.config, &input.source);
+        port::analyze_with(y, cb, cr, config, source, &lent.predictor, input.tolerance, counter.0, counter.1, counter.2, &mut lent.block)
     }
 }
 
@@ -291,32 +198,22 @@ pub fn within_edits() -> Vec<Edit> {
 }
 
 pub fn compare(report: &mut Report) {
-    report.compare("analyze-small", report.once(small()).map(Call::<Analyze>::new));
-    report.compare("analyze-limits", report.once(limits()).map(Call::<Analyze>::new));
-    let mut random = report.random("analyze");
-    report.compare("analyze", (0..report.blocks).map(move |_| Call::<Analyze>::new(input(&mut random))));
-    let (mut random, mut before) = (report.random("analyze-chained"), None);
-    report.compare("analyze-chained", (0..report.blocks).map(move |_| Call::<Analyze>::new(chained(&mut random, &mut before))));
-    let mut random = report.random("analyze-within");
-    report.compare(
-        "analyze-within",
-        (0..report.blocks).map(move |_| {
-            let mut case = input(&mut random);
-            case.tolerance = harness::color_tolerance(one_of(&mut random, &[0, 4, 9, 16, 22, 28, 34]), false).into();
-            Call::<Within>::new(case)
-        }),
-    );
-    let mut random = report.random("analyze-colorful");
-    report.compare("analyze-colorful", (0..report.blocks).map(move |_| Call::<Analyze>::new(colorful(&mut random))));
-    let mut random = report.random("analyze-within-colorful");
-    report.compare(
-        "analyze-within-colorful",
-        (0..report.blocks).map(move |_| {
-            let mut case = colorful(&mut random);
-            case.tolerance = random.below(2);
-            Call::<Within>::new(case)
-        }),
-    );
+    given::<Analyze>(report, "analyze-small", small());
+    given::<Analyze>(report, "analyze-limits", limits());
+    drawn::<Analyze>(report, "analyze", input);
+    let mut before = None;
+    drawn::<Analyze>(report, "analyze-chained", |random| chained(random, &mut before));
+    drawn::<Within>(report, "analyze-within", |random| {
+        let mut case = input(random);
+        case.tolerance = harness::color_tolerance(one_of(random, &[0, 4, 9, 16, 22, 28, 34]), false).into();
+        case
+    });
+    drawn::<Analyze>(report, "analyze-colorful", colorful);
+    drawn::<Within>(report, "analyze-within-colorful", |random| {
+        let mut case = colorful(random);
+        case.tolerance = random.below(2);
+        case
+    });
     report.compare("analyze-refusals", report.once(refused::<Analyze>(edits())));
     report.compare("analyze-within-refusals", report.once(refused::<Within>(within_edits())));
 }

@@ -1,45 +1,12 @@
 //! Indices, levels and error figures of blocks whose palette is given.
 
 use crate::analysis::{all, grey, VALUES};
-use crate::blocks::{at, round_figure, rounded, set, Call, Input, Op, INDICES, PALETTE};
-use crate::draw::{analysed, assigned, input, one_of, whole, with_palette};
+use crate::blocks::{at, drawn, given, round_figure, rounded, set, Input, Op, INDICES, PALETTE};
+use crate::draw::{analysed, assigned, input, made_or_whole, one_of, with_palette};
 use crate::palette::{assign_indices, harness};
+use crate::port;
 use crate::refusals::{self, refused, Edit};
 use crate::report::{Random, Report};
-
-extern "C" {
-    fn velomitra_assign_indices(
-        y: *const u16,
-        y_len: usize,
-        cb: *const u16,
-        cb_len: usize,
-        cr: *const u16,
-        cr_len: usize,
-        config: *const i32,
-        config_len: usize,
-        source: *const usize,
-        source_len: usize,
-        transpose: bool,
-        block: *mut u16,
-        block_len: usize,
-    ) -> u8;
-    fn velomitra_palette_sse(
-        y: *const u16,
-        y_len: usize,
-        cb: *const u16,
-        cb_len: usize,
-        cr: *const u16,
-        cr_len: usize,
-        config: *const i32,
-        config_len: usize,
-        source: *const usize,
-        source_len: usize,
-        block: *const u16,
-        block_len: usize,
-        figure: *mut u64,
-        figure_len: usize,
-    ) -> u8;
-}
 
 pub struct Assign;
 
@@ -60,24 +27,7 @@ impl Op for Assign {
     /// The error figure is rounded once, as source 000's is.
     fn port(input: &mut Input) -> u8 {
         let ([y, cb, cr], lent) = (&input.planes, &mut input.lent);
-        // SAFETY: as in port.rs
-        let number = unsafe {
-            velomitra_assign_indices(
-                y.as_ptr(),
-                y.len(),
-                cb.as_ptr(),
-                cb.len(),
-                cr.as_ptr(),
-                cr.len(),
-                input.config.as_ptr(),
-                input.config.len(),
-                input.source.as_ptr(),
-                input.source.len(),
-                input.transpose,
-                lent.block.as_mut_ptr(),
-                lent.block.len(),
-            )
-        };
+        let number = port::assign_indices(y, cb, cr, &input.config, &input.source, input.transpose, &mut lent.block);
         if number == 0 {
             round_figure(&mut lent.block);
         }
@@ -99,45 +49,18 @@ impl Op for Figure {
 
     fn port(input: &mut Input) -> u8 {
         let ([y, cb, cr], lent) = (&input.planes, &mut input.lent);
-        // SAFETY: as in port.rs
-        let number = unsafe {
-            velomitra_palette_sse(
-                y.as_ptr(),
-                y.len(),
-                cb.as_ptr(),
-                cb.len(),
-                cr.as_ptr(),
-                cr.len(),
-                input.config.as_ptr(),
-                input.config.len(),
-                input.source.as_ptr(),
-                input.source.len(),
-                lent.block.as_ptr(),
-                lent.block.len(),
-                lent.figure.as_mut_ptr(),
-                lent.figure.len(),
-            )
-        };
+        let number = port::palette_sse(y, cb, cr, &input.config, &input.source, &lent.block, &mut lent.figure);
         lent.figure.iter_mut().for_each(|figure| *figure = rounded(*figure));
         number
     }
 }
 
 /// Half the blocks with the palette that source 000 finds, half with any.
-fn drawn(random: &mut Random) -> Input {
+fn assignable(random: &mut Random) -> Input {
     let case = input(random);
     match analysed(case.clone()) {
         Some(found) if one_of(random, &[true, false]) => found,
         _ => with_palette(random, case),
-    }
-}
-
-/// Any whole block, or one that source 000 made.
-fn measured(random: &mut Random) -> Input {
-    let case = input(random);
-    match analysed(case.clone()).and_then(assigned) {
-        Some(made) if one_of(random, &[true, false]) => made,
-        _ => whole(random, case),
     }
 }
 
@@ -221,12 +144,13 @@ pub fn figure_edits() -> Vec<Edit> {
 }
 
 pub fn compare(report: &mut Report) {
-    report.compare("assign-small", report.once(small()).map(Call::<Assign>::new));
-    let mut random = report.random("assign");
-    report.compare("assign", (0..report.blocks).map(move |_| Call::<Assign>::new(drawn(&mut random))));
+    given::<Assign>(report, "assign-small", small());
+    drawn::<Assign>(report, "assign", assignable);
     report.compare("assign-refusals", report.once(refused::<Assign>(edits())));
-    report.compare("figure-small", report.once(small()).filter_map(assigned).map(Call::<Figure>::new));
-    let mut random = report.random("figure");
-    report.compare("figure", (0..report.blocks).map(move |_| Call::<Figure>::new(measured(&mut random))));
+    given::<Figure>(report, "figure-small", small().filter_map(assigned));
+    drawn::<Figure>(report, "figure", |random| {
+        let case = input(random);
+        made_or_whole(random, case)
+    });
     report.compare("figure-refusals", report.once(refused::<Figure>(figure_edits())));
 }

@@ -1,60 +1,13 @@
 //! What the calls on whole blocks share: their input as the port's lists of numbers (laid out in crates/flat/src/lib.rt), the same as source 000's records, and both sides' answers.
 
-use crate::palette::harness::blocks as private;
 use crate::coverage::Coverage;
+use crate::palette::harness::blocks as private;
 use crate::palette::{ColorIndex, PaletteConfig, PaletteCu, PalettePredictor, SourceBlock};
-use crate::report::Case;
+use crate::report::{Case, Random, Report};
 use std::fmt;
 use std::marker::PhantomData;
 
-pub const LIMIT: usize = 64;
-pub const MOST_ENTRIES: usize = 128;
-pub const SLOTS: usize = 256;
-/// Where the parts of a block's list begin, and its length.
-pub const PALETTE: usize = 16;
-pub const FLAGS: usize = 208;
-pub const INDICES: usize = 336;
-pub const LEVELS: usize = 1360;
-pub const BLOCK: usize = 4432;
-/// The length of a predictor's list.
-pub const PREDICTOR: usize = 385;
-
-/// Places of a block's list before the palette.
-pub mod at {
-    pub const SIZE: usize = 0;
-    pub const FORMAT: usize = 1;
-    pub const LUMA: usize = 2;
-    pub const CHROMA: usize = 3;
-    pub const LOSSLESS: usize = 4;
-    pub const ENTRIES: usize = 5;
-    pub const FLAGS: usize = 6;
-    pub const SIGNALED: usize = 7;
-    pub const ESCAPE: usize = 8;
-    pub const TRANSPOSE: usize = 9;
-    pub const TOLERANCE: usize = 10;
-    pub const FIGURE: usize = 11;
-}
-
-/// Places of a geometry's list.
-pub mod side {
-    pub const YW: usize = 0;
-    pub const YH: usize = 1;
-    pub const CW: usize = 2;
-    pub const CH: usize = 3;
-    pub const X0: usize = 4;
-    pub const Y0: usize = 5;
-    pub const SIZE: usize = 6;
-}
-
-/// Places of a configuration's list.
-pub mod set {
-    pub const COMPS: usize = 0;
-    pub const FORMAT: usize = 1;
-    pub const LUMA: usize = 2;
-    pub const CHROMA: usize = 3;
-    pub const QP: usize = 4;
-    pub const LOSSLESS: usize = 7;
-}
+pub use common::layout::*;
 
 /// All that a call may be given; each takes what it needs.
 #[derive(Clone, Default)]
@@ -334,6 +287,17 @@ impl<O: Op> Case for Call<O> {
     fn smaller(&self) -> Vec<Call<O>> {
         smaller(&self.input).into_iter().map(Call::new).collect()
     }
+}
+
+/// Compares a call on inputs that are the same for every seed.
+pub fn given<O: Op>(report: &mut Report, name: &'static str, inputs: impl IntoIterator<Item = Input>) {
+    report.compare(name, report.once(inputs).map(Call::<O>::new));
+}
+
+/// Compares a call on drawn inputs.
+pub fn drawn<O: Op>(report: &mut Report, name: &'static str, mut draw: impl FnMut(&mut Random) -> Input) {
+    let mut random = report.random(name);
+    report.compare(name, (0..report.blocks).map(|_| Call::<O>::new(draw(&mut random))));
 }
 
 /// Inputs with one thing less: a predictor entry, a colour of the planes, a QP, the transposition, an index, a rate, a bin.

@@ -2,7 +2,7 @@
 
 use crate::analysis::Analyze;
 use crate::assign::{Assign, Figure};
-use crate::blocks::{Call, Input, Lent, Op, MOST_ENTRIES};
+use crate::blocks::{drawn, Input, Lent, Op, MOST_ENTRIES};
 use crate::draw::{input, one_of};
 use crate::report::{Random, Report};
 use crate::update::Update;
@@ -44,6 +44,6 @@ fn next(random: &mut Random, before: &mut Option<Input>) -> Input {
 }
 
 pub fn compare(report: &mut Report) {
-    let (mut random, mut before) = (report.random("chain"), None);
-    report.compare("chain", (0..report.blocks).map(move |_| Call::<Chain>::new(next(&mut random, &mut before))));
+    let mut before = None;
+    drawn::<Chain>(report, "chain", |random| next(random, &mut before));
 }

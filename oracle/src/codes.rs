@@ -40,7 +40,11 @@ impl Case for Put {
 
 /// The number of a refusal, or 0.
 fn refusal(answer: &Read<Value>) -> u64 {
-    if let Read::Refused(number, _) = answer { *number } else { 0 }
+    if let Read::Refused(number, _) = answer {
+        *number
+    } else {
+        0
+    }
 }
 
 /// The port reading source 000's bins back.

@@ -68,14 +68,8 @@ fn geometry(random: &mut Random, format: i32) -> Vec<usize> {
 /// An input without planes yet.
 fn blank(random: &mut Random, config: Vec<i32>) -> Input {
     let source = geometry(random, config[set::FORMAT]);
-    let mut input = Input {
-        config,
-        source,
-        planes: [vec![], vec![], vec![]],
-        transpose: one_in(random, 2),
-        limit: MOST_ENTRIES,
-        ..Input::default()
-    };
+    let mut input =
+        Input { config, source, planes: [vec![], vec![], vec![]], transpose: one_in(random, 2), limit: MOST_ENTRIES, ..Input::default() };
     input.lent.block.iter_mut().for_each(|number| *number = random.below(3) as u16);
     input
 }
@@ -365,4 +359,12 @@ pub fn whole(random: &mut Random, mut input: Input) -> Input {
     }
     input.lent.block = list;
     input
+}
+
+/// The block that source 000 makes of an input, or any that holds together.
+pub fn made_or_whole(random: &mut Random, input: Input) -> Input {
+    match analysed(input.clone()).and_then(assigned) {
+        Some(made) if one_of(random, &[true, false]) => made,
+        _ => whole(random, input),
+    }
 }

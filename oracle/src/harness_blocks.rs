@@ -51,5 +51,8 @@ pub(crate) fn run(run: &PaletteRun) -> [u32; 4] {
 
 /// The runs that numbers are, four to each.
 pub(crate) fn runs(numbers: &[[u32; 4]]) -> Vec<PaletteRun> {
-    numbers.iter().map(|&[above, raw_index, run, scan]| PaletteRun { copy_above: above == 1, raw_index, run, scan: scan as usize }).collect()
+    numbers
+        .iter()
+        .map(|&[above, raw_index, run, scan]| PaletteRun { copy_above: above == 1, raw_index, run, scan: scan as usize })
+        .collect()
 }

@@ -26,7 +26,8 @@ struct List {
 /// The input with no more than a record has, if it then is the same call.
 fn cut(mut input: Input) -> Option<Input> {
     let (w, h, cw, ch) = (input.source.first()?, input.source.get(1)?, input.source.get(2)?, input.source.get(3)?);
-    let room = |plane: &[u16], w: usize, h: usize| plane.len() <= SAMPLES && w.checked_mul(h).is_some_and(|n| n <= plane.len() || n > SAMPLES);
+    let room =
+        |plane: &[u16], w: usize, h: usize| plane.len() <= SAMPLES && w.checked_mul(h).is_some_and(|n| n <= plane.len() || n > SAMPLES);
     let used = input.config.get(set::FORMAT) != Some(&0);
     if input.config.len() != 8 || input.source.len() != 7 || !room(&input.planes[0], *w, *h) {
         return None;

@@ -26,63 +26,63 @@ mod scan;
 mod second;
 mod smooth;
 mod speed;
+mod speed_calls;
+mod speed_pictures;
+mod speed_table;
 mod update;
 mod write;
 
 use report::Report;
+use std::io;
 use std::path::Path;
 use std::process::ExitCode;
 use std::time::Duration;
 
-const USAGE: &str = "usage: oracle/run [--seed N] [--count N] [--only NAME] [--long MINUTES] | --list | --speed";
+const USAGE: &str = "usage: oracle/run [--seed N] [--count N] [--only NAME] [--long MINUTES] | --list | --speed [--only NAME]";
 
-fn main() -> ExitCode {
-    let (mut seed, mut count, mut only, mut long, mut list, mut speed) = (1, None, None, None, false, false);
-    let mut words = std::env::args().skip(1).peekable();
+/// What a run is asked for.
+#[derive(Default)]
+struct Asked {
+    seed: u64,
+    count: Option<usize>,
+    only: Option<String>,
+    long: Option<Duration>,
+    list: bool,
+    speed: bool,
+}
+
+/// None where the words are not those of the usage.
+fn asked(words: impl Iterator<Item = String>) -> Option<Asked> {
+    let mut asked = Asked { seed: 1, ..Asked::default() };
+    let mut words = words.peekable();
     while let Some(word) = words.next() {
-        let mut number = || words.next().and_then(|n| n.parse::<u64>().ok());
         match word.as_str() {
-            "--seed" => match number() {
-                Some(n) => seed = n,
-                None => return usage(),
-            },
-            "--count" => match number() {
-                Some(n) => count = Some(n as usize),
-                None => return usage(),
-            },
-            "--only" => match words.next() {
-                Some(name) => only = Some(name),
-                None => return usage(),
-            },
+            "--seed" => asked.seed = words.next()?.parse().ok()?,
+            "--count" => asked.count = Some(words.next()?.parse().ok()?),
+            "--only" => asked.only = Some(words.next()?),
             "--long" => {
-                let minutes = words.next_if(|word| !word.starts_with("--")).map_or(Some(60), |n| n.parse().ok());
-                match minutes {
-                    Some(minutes) => long = Some(Duration::from_secs(60 * minutes)),
-                    None => return usage(),
-                }
+                let minutes: u64 = words.next_if(|word| !word.starts_with("--")).map_or(Some(60), |n| n.parse().ok())?;
+                asked.long = Some(Duration::from_secs(60 * minutes));
             }
-            "--list" => list = true,
-            "--speed" => speed = true,
-            _ => return usage(),
+            "--list" => asked.list = true,
+            "--speed" => asked.speed = true,
+            _ => return None,
         }
     }
-    print!("{}", include_str!(concat!(env!("OUT_DIR"), "/difference.txt")));
-    if list {
-        let crates = Path::new(concat!(env!("CARGO_MANIFEST_DIR"), "/../crates"));
-        let blocks = || list_blocks::write(&crates.join("answers_block"));
-        return match list::write(&crates.join("answers")).and_then(|()| blocks()).and_then(|()| list_wire::write(&crates.join("answers_wire"))) {
-            Ok(()) => ExitCode::SUCCESS,
-            Err(why) => {
-                eprintln!("the list is not written: {why}");
-                ExitCode::FAILURE
-            }
-        };
-    }
-    if speed {
-        speed::measure();
-        return ExitCode::SUCCESS;
-    }
-    let mut report = Report::new(seed, count, only, long);
+    Some(asked)
+}
+
+/// Writes the fixed lists.
+fn list() -> io::Result<()> {
+    let crates = Path::new(concat!(env!("CARGO_MANIFEST_DIR"), "/../crates"));
+    list::write(&crates.join("answers"))?;
+    list_blocks::write(&crates.join("answers_block"))?;
+    list_wire::write(&crates.join("answers_wire"))
+}
+
+/// Compares all that is asked for.
+fn compare(asked: Asked) -> bool {
+    let mut report = Report::new(asked.seed, asked.count, asked.only, asked.long);
     while report.goes_on() {
         scan::compare(&mut report);
         quant::compare(&mut report);
@@ -97,14 +97,21 @@ fn main() -> ExitCode {
         write::compare(&mut report);
         read::compare(&mut report);
     }
-    if report.finish() {
-        ExitCode::SUCCESS
-    } else {
-        ExitCode::FAILURE
-    }
+    report.finish()
 }
 
-fn usage() -> ExitCode {
-    eprintln!("{USAGE}");
-    ExitCode::from(2)
+fn main() -> ExitCode {
+    let Some(asked) = asked(std::env::args().skip(1)) else {
+        eprintln!("{USAGE}");
+        return ExitCode::from(2);
+    };
+    print!("{}", include_str!(concat!(env!("OUT_DIR"), "/difference.txt")));
+    let fine = if asked.list {
+        list().map_err(|why| eprintln!("the list is not written: {why}")).is_ok()
+    } else if asked.speed {
+        speed::measure(asked.only.as_deref())
+    } else {
+        compare(asked)
+    };
+    ExitCode::from(u8::from(!fine))
 }

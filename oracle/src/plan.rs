@@ -1,6 +1,6 @@
 //! Run plans: the runs one by one, and the total bit for bit.
 
-use crate::blocks::{at, Call, Input, Op, BLOCK, INDICES};
+use crate::blocks::{at, drawn, given, Input, Op, BLOCK, INDICES};
 use crate::cabac::contexts::PaletteContexts;
 use crate::draw::{analysed, assigned, input, one_in, one_of, up_to, whole};
 use crate::palette::harness::blocks as private;
@@ -8,21 +8,6 @@ use crate::palette::plan_runs;
 use crate::port;
 use crate::refusals::{self, refused, Edit};
 use crate::report::{Random, Report};
-
-extern "C" {
-    fn velomitra_plan_runs(
-        block: *const u16,
-        block_len: usize,
-        rates: *const f32,
-        rates_len: usize,
-        runs: *mut u32,
-        runs_len: usize,
-        count: *mut usize,
-        count_len: usize,
-        total: *mut f32,
-        total_len: usize,
-    ) -> u8;
-}
 
 pub struct Plan;
 
@@ -48,22 +33,14 @@ impl Op for Plan {
 
     fn port(input: &mut Input) -> u8 {
         let lent = &mut input.lent;
-        // SAFETY: as in port.rs; a float is lent as its bits
-        unsafe {
-            velomitra_plan_runs(
-                lent.block.as_ptr(),
-                lent.block.len(),
-                input.rates.as_ptr(),
-                input.rates.len(),
-                lent.runs.as_mut_ptr(),
-                lent.runs.len(),
-                lent.count.as_mut_ptr(),
-                lent.count.len(),
-                lent.total.as_mut_ptr().cast(),
-                lent.total.len(),
-            )
-        }
+        port::plan_runs(&lent.block, &input.rates, &mut lent.runs, &mut lent.count, floats(&mut lent.total))
     }
+}
+
+/// Floats of these bits.
+fn floats(bits: &mut [u32]) -> &mut [f32] {
+    // SAFETY: any 32 bits are a float and any float 32 bits
+    unsafe { std::slice::from_raw_parts_mut(bits.as_mut_ptr().cast(), bits.len()) }
 }
 
 // ---- rates
@@ -146,7 +123,7 @@ fn plain(block: Vec<u16>, rates: Vec<f32>) -> Input {
 }
 
 /// Maps that source 000's analysis led to, any blocks, and maps drawn.
-fn drawn(random: &mut Random) -> Input {
+fn plannable(random: &mut Random) -> Input {
     let block = match random.below(4) {
         0 => {
             let case = input(random);
@@ -192,7 +169,8 @@ fn small() -> impl Iterator<Item = Input> {
     let mut random = Random::new(3);
     let table: Vec<Vec<f32>> = (0..24).map(|_| rates(&mut random)).collect();
     let (for_two, for_three) = (table.clone(), table);
-    let two = (0..=4).flat_map(|most| maps(2, most)).flat_map(move |map| for_two.clone().into_iter().map(move |rates| plain(map.clone(), rates)));
+    let two =
+        (0..=4).flat_map(|most| maps(2, most)).flat_map(move |map| for_two.clone().into_iter().map(move |rates| plain(map.clone(), rates)));
     let three = (1..=2).flat_map(|most| maps(3, most)).zip(0..).map(move |(map, k)| plain(map, for_three[k % for_three.len()].clone()));
     two.chain(three)
 }
@@ -280,10 +258,9 @@ pub fn edits() -> Vec<Edit> {
 }
 
 pub fn compare(report: &mut Report) {
-    report.compare("plan-small", report.once(small()).map(Call::<Plan>::new));
-    report.compare("plan-tie", report.once(ties()).map(Call::<Plan>::new));
-    report.compare("plan-even", report.once(even()).map(|block| Call::<Plan>::new(plain(block, vec![1.0; 18]))));
-    let mut random = report.random("plan");
-    report.compare("plan", (0..report.blocks).map(move |_| Call::<Plan>::new(drawn(&mut random))));
+    given::<Plan>(report, "plan-small", small());
+    given::<Plan>(report, "plan-tie", ties());
+    given::<Plan>(report, "plan-even", even().map(|block| plain(block, vec![1.0; 18])));
+    drawn::<Plan>(report, "plan", plannable);
     report.compare("plan-refusals", report.once(refused::<Plan>(edits())));
 }

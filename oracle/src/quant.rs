@@ -177,7 +177,9 @@ pub fn compare(report: &mut Report) {
     );
     report.compare(
         "quantize",
-        report.once(depths()).flat_map(|(lossless, qp, depth)| (0..=most(depth) as u16).map(move |value| Quantize { lossless, qp, depth, value })),
+        report
+            .once(depths())
+            .flat_map(|(lossless, qp, depth)| (0..=most(depth) as u16).map(move |value| Quantize { lossless, qp, depth, value })),
     );
 
     let mut random = report.random("distance");

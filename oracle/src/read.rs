@@ -1,7 +1,8 @@
 //! Blocks read from bins: source 000's bins read back, and spoilt lists held to the second reading.
 
-use crate::blocks::{at, set, side, triples, Call, Input, Op, BLOCK, FLAGS, INDICES, LEVELS, PALETTE};
+use crate::blocks::{at, drawn, given, set, side, triples, Call, Input, Op, BLOCK, FLAGS, INDICES, LEVELS, PALETTE};
 use crate::draw::{one_in, one_of, up_to};
+use crate::port;
 use crate::refusals::{self, Edit};
 use crate::report::{Random, Report};
 use crate::second::{self, position, Cause, Element, Refused, Told};
@@ -10,58 +11,13 @@ use std::cell::RefCell;
 use std::collections::BTreeMap;
 use std::rc::Rc;
 
-extern "C" {
-    fn velomitra_read_palette_cu(
-        bins: *const u8,
-        bins_len: usize,
-        size: usize,
-        format: u8,
-        luma: u8,
-        chroma: u8,
-        lossless: bool,
-        predictor: *const u16,
-        predictor_len: usize,
-        block: *mut u16,
-        block_len: usize,
-        runs: *mut u32,
-        runs_len: usize,
-        count: *mut usize,
-        count_len: usize,
-        used: *mut usize,
-        used_len: usize,
-        place: *mut usize,
-        place_len: usize,
-    ) -> u8;
-}
-
 fn port(input: &mut Input) -> u8 {
     let config = |place: usize| input.config[place] as u8;
     let (format, luma, chroma, lossless) = (config(set::FORMAT), config(set::LUMA), config(set::CHROMA), input.config[set::LOSSLESS] == 1);
     let lent = &mut input.lent;
-    // SAFETY: as in port.rs
-    unsafe {
-        velomitra_read_palette_cu(
-            lent.bins.as_ptr(),
-            lent.bins.len(),
-            input.source[side::SIZE],
-            format,
-            luma,
-            chroma,
-            lossless,
-            lent.predictor.as_ptr(),
-            lent.predictor.len(),
-            lent.block.as_mut_ptr(),
-            lent.block.len(),
-            lent.runs.as_mut_ptr(),
-            lent.runs.len(),
-            lent.count.as_mut_ptr(),
-            lent.count.len(),
-            lent.used.as_mut_ptr(),
-            lent.used.len(),
-            lent.place.as_mut_ptr(),
-            lent.place.len(),
-        )
-    }
+    let lists = (&mut lent.block, &mut lent.runs, &mut lent.count, &mut lent.used, &mut lent.place);
+    let size = input.source[side::SIZE];
+    port::read_palette_cu(&lent.bins, size, format, luma, chroma, lossless, &lent.predictor, lists.0, lists.1, lists.2, lists.3, lists.4)
 }
 
 /// What both readings are told; a predictor entry that is missing is 0.
@@ -83,7 +39,16 @@ pub fn told(input: &Input) -> Told {
 /// A block that was read, as a list of numbers.
 fn flat(told: &Told, block: &second::Block) -> Vec<u16> {
     let mut list = vec![0; BLOCK];
-    let head = [told.size, told.format, told.luma_depth, told.chroma_depth, told.lossless.into(), block.palette.len(), block.reused.len(), block.signalled];
+    let head = [
+        told.size,
+        told.format,
+        told.luma_depth,
+        told.chroma_depth,
+        told.lossless.into(),
+        block.palette.len(),
+        block.reused.len(),
+        block.signalled,
+    ];
     let flags = [block.escape, block.transpose].map(usize::from);
     for (number, from) in list.iter_mut().zip(head.into_iter().chain(flags)) {
         *number = from as u16;
@@ -228,7 +193,7 @@ fn written(mut input: Input, runs: &[[u32; 4]], after: usize) -> Input {
 }
 
 /// Any block that source 000 writes, small ones more often if they are to be spoilt.
-fn drawn(random: &mut Random, most_cells: usize) -> Input {
+fn readable(random: &mut Random, most_cells: usize) -> Input {
     loop {
         let mut case = write::block(random);
         if usize::from(case.lent.block[at::SIZE]).pow(2) > most_cells {
@@ -327,7 +292,10 @@ fn grown(random: &mut Random, base: &Input) -> Input {
     let mut case = with_bins(base, vec![]);
     let told = told(&case);
     let ones = 1 + random.below(7);
-    let long = one_of(random, &[Element::PredictorRun, Element::SignalledEntries, Element::IndexCount, Element::EscapeValue, Element::RunPrefix, Element::None]);
+    let long = one_of(
+        random,
+        &[Element::PredictorRun, Element::SignalledEntries, Element::IndexCount, Element::EscapeValue, Element::RunPrefix, Element::None],
+    );
     let end = 40 + up_to(random, 400);
     while case.lent.bins.len() < end {
         let bins = &mut case.lent.bins;
@@ -479,14 +447,12 @@ pub fn compare(report: &mut Report) {
         let runs: Vec<[u32; 4]> = case.lent.runs.chunks_exact(4).map(|run| [run[0], run[1], run[2], run[3]]).collect();
         written(case, &runs, 1)
     };
-    report.compare("second-small", report.once(small()).map(kept).map(Call::<Second>::new));
-    let mut random = report.random("second");
-    report.compare("second", (0..count).map(move |_| Call::<Second>::new(drawn(&mut random, 1024))));
-    report.compare("read-back-small", report.once(small()).map(kept).map(Call::<Back>::new));
-    report.compare("read-back-even", report.once(write::long()).map(kept).map(Call::<Back>::new));
-    let mut random = report.random("read-back");
-    report.compare("read-back", (0..count).map(move |_| Call::<Back>::new(drawn(&mut random, 1024))));
-    report.compare("read-back-longest", report.once([write::longest()]).map(kept).map(Call::<Back>::new));
+    given::<Second>(report, "second-small", small().map(kept));
+    drawn::<Second>(report, "second", |random| readable(random, 1024));
+    given::<Back>(report, "read-back-small", small().map(kept));
+    given::<Back>(report, "read-back-even", write::long().map(kept));
+    drawn::<Back>(report, "read-back", |random| readable(random, 1024));
+    given::<Back>(report, "read-back-longest", [write::longest()].map(kept));
     report.compare("read-refusals", report.once(refusals()));
 
     let tally = Rc::new(RefCell::new(Tally::default()));
@@ -498,27 +464,30 @@ pub fn compare(report: &mut Report) {
         }
     };
     let mut random = report.random("read-cut");
-    report.compare("read-cut", std::iter::repeat_with(move || drawn(&mut random, 64)).flat_map(cuts).take(count).map(told(&tally)));
+    report.compare("read-cut", std::iter::repeat_with(move || readable(&mut random, 64)).flat_map(cuts).take(count).map(told(&tally)));
     let mut random = report.random("read-turned");
-    report.compare("read-turned", std::iter::repeat_with(move || drawn(&mut random, 64)).flat_map(turned).take(count).map(told(&tally)));
+    report.compare("read-turned", std::iter::repeat_with(move || readable(&mut random, 64)).flat_map(turned).take(count).map(told(&tally)));
     let mut random = report.random("read-replaced");
-    report.compare("read-replaced", std::iter::repeat_with(move || drawn(&mut random, 36)).flat_map(replaced).take(2 * count).map(told(&tally)));
+    report.compare(
+        "read-replaced",
+        std::iter::repeat_with(move || readable(&mut random, 36)).flat_map(replaced).take(2 * count).map(told(&tally)),
+    );
     let mut random = report.random("read-mixed");
     let mixed = (0..2 * count).map(move |_| {
-        let base = drawn(&mut random, 1024);
+        let base = readable(&mut random, 1024);
         let case = mixed(&mut random, &base);
         other_call(&mut random, case)
     });
     report.compare("read-mixed", mixed.map(told(&tally)));
     let mut random = report.random("read-noise");
     let noise = (0..count).map(move |_| {
-        let base = drawn(&mut random, 64);
+        let base = readable(&mut random, 64);
         noise(&mut random, &base)
     });
     report.compare("read-noise", noise.map(told(&tally)));
     let mut random = report.random("read-grown");
     let grown = (0..count).map(move |_| {
-        let base = drawn(&mut random, 64);
+        let base = readable(&mut random, 64);
         let base = other_call(&mut random, base);
         grown(&mut random, &base)
     });

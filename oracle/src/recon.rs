@@ -3,34 +3,14 @@
 use crate::analysis::all;
 use crate::blocks::{at, set, side, Input, Lent, BLOCK, INDICES, LEVELS, PALETTE};
 use crate::coverage::Coverage;
-use crate::draw::{analysed, assigned, input, one_in, one_of, up_to, whole};
+use crate::draw::{input, made_or_whole, one_in, one_of, up_to};
 use crate::palette::{reconstruct, ReconTarget};
+use crate::port;
 use crate::refusals::{self, Edit};
 use crate::report::{Case, Random, Report};
-use crate::speed::{median, timed};
 use std::fmt;
-use std::hint::black_box;
 
-extern "C" {
-    fn velomitra_reconstruct(
-        y: *mut u16,
-        y_len: usize,
-        cb: *mut u16,
-        cb_len: usize,
-        cr: *mut u16,
-        cr_len: usize,
-        y_stride: usize,
-        c_stride: usize,
-        config: *const i32,
-        config_len: usize,
-        source: *const usize,
-        source_len: usize,
-        block: *const u16,
-        block_len: usize,
-    ) -> u8;
-}
-
-type Planes = [Vec<u16>; 3];
+pub type Planes = [Vec<u16>; 3];
 
 /// A call: the input's planes are the target. `due` is the refusal that is due, 0 where source 000's planes are.
 #[derive(Clone)]
@@ -41,34 +21,27 @@ struct Target {
     input: Input,
 }
 
-fn source(input: &Input, strides: [usize; 2], planes: &mut Planes) {
-    let (config, [y, cb, cr]) = (input.source_config(), planes);
-    let cu = input.lent.source_cu(config.num_comps);
-    let mut target = ReconTarget { y, cb, cr, y_stride: strides[0], c_stride: strides[1], y_height: input.source[side::YH], c_height: input.source[side::CH] };
-    reconstruct(&cu, &config, &mut target, input.source[side::X0], input.source[side::Y0]);
+/// Source 000's planes to reconstruct onto.
+pub fn onto<'a>(input: &Input, strides: [usize; 2], [y, cb, cr]: &'a mut Planes) -> ReconTarget<'a> {
+    ReconTarget {
+        y,
+        cb,
+        cr,
+        y_stride: strides[0],
+        c_stride: strides[1],
+        y_height: input.source[side::YH],
+        c_height: input.source[side::CH],
+    }
 }
 
-fn port(input: &Input, strides: [usize; 2], planes: &mut Planes) -> u8 {
-    let [y, cb, cr] = planes;
-    // SAFETY: as in port.rs
-    unsafe {
-        velomitra_reconstruct(
-            y.as_mut_ptr(),
-            y.len(),
-            cb.as_mut_ptr(),
-            cb.len(),
-            cr.as_mut_ptr(),
-            cr.len(),
-            strides[0],
-            strides[1],
-            input.config.as_ptr(),
-            input.config.len(),
-            input.source.as_ptr(),
-            input.source.len(),
-            input.lent.block.as_ptr(),
-            input.lent.block.len(),
-        )
-    }
+fn source(input: &Input, strides: [usize; 2], planes: &mut Planes) {
+    let config = input.source_config();
+    let cu = input.lent.source_cu(config.num_comps);
+    reconstruct(&cu, &config, &mut onto(input, strides, planes), input.source[side::X0], input.source[side::Y0]);
+}
+
+pub fn port(input: &Input, strides: [usize; 2], [y, cb, cr]: &mut Planes) -> u8 {
+    port::reconstruct(y, cb, cr, strides[0], strides[1], &input.config, &input.source, &input.lent.block)
 }
 
 impl Case for Target {
@@ -129,10 +102,7 @@ fn stride(random: &mut Random, width: usize) -> usize {
 /// Blocks that source 000 made, and others that hold together, onto planes of any samples.
 fn drawn(random: &mut Random) -> Target {
     let case = input(random);
-    let input = match analysed(case.clone()).and_then(assigned) {
-        Some(made) if one_of(random, &[true, false]) => made,
-        _ => whole(random, case),
-    };
+    let input = made_or_whole(random, case);
     let strides = [side::YW, side::CW].map(|place| stride(random, input.source[place]));
     let mut case = Target { what: "drawn", due: 0, strides, input };
     lend(random, &mut case);
@@ -280,44 +250,4 @@ pub fn compare(report: &mut Report) {
     let mut random = report.random("recon");
     report.compare("recon", (0..report.blocks).map(move |_| drawn(&mut random)));
     report.compare("recon-refusals", report.once(refused()));
-}
-
-/// Medians of both sides in µs a block, the block as source 000 made it; clipped: 20 columns and 20 rows of it lie in the planes.
-pub fn times(inputs: &[Input], rounds: usize, clipped: bool, transposed: bool) -> (f64, f64) {
-    let mut calls: Vec<(Target, Planes, Planes)> = inputs.iter().map(|input| clip(input, clipped, transposed)).collect();
-    let (mut theirs, mut ours) = (Vec::new(), Vec::new());
-    for round in 0..2 * rounds {
-        for (case, one, other) in &mut calls {
-            let Target { input, strides, .. } = &*case;
-            let (config, cu) = (input.source_config(), input.lent.source_cu(3));
-            let mut first = || {
-                let [y, cb, cr] = &mut *one;
-                let mut target = ReconTarget { y, cb, cr, y_stride: strides[0], c_stride: strides[1], y_height: input.source[side::YH], c_height: input.source[side::CH] };
-                timed(|| reconstruct(&cu, &config, &mut target, input.source[side::X0], input.source[side::Y0]))
-            };
-            if round % 2 == 0 {
-                theirs.push(first());
-            }
-            ours.push(timed(|| assert_eq!(port(input, *strides, other), 0)));
-            if round % 2 == 1 {
-                theirs.push(first());
-            }
-        }
-    }
-    assert!(calls.iter().all(|(_, one, other)| one == other));
-    black_box(&calls);
-    (median(theirs), median(ours))
-}
-
-fn clip(input: &Input, clipped: bool, transposed: bool) -> (Target, Planes, Planes) {
-    let mut input = analysed(input.clone()).and_then(assigned).expect("source 000 takes the block");
-    let (sub_w, sub_h) = input.sub();
-    if clipped {
-        let [w, h] = [side::X0, side::Y0].map(|place| input.source[place] + 20);
-        input.source[..4].copy_from_slice(&[w, h, w / sub_w, h / sub_h]);
-    }
-    input.lent.block[at::TRANSPOSE] = transposed.into();
-    let strides = [input.source[side::YW], input.source[side::CW]];
-    let planes: Planes = [side::YH, side::CH, side::CH].map(|place| vec![7; strides[usize::from(place == side::CH)] * input.source[place]]);
-    (Target { what: "timed", due: 0, strides, input }, planes.clone(), planes)
 }

@@ -5,6 +5,8 @@ use std::fmt::Debug;
 use std::iter::Flatten;
 use std::time::{Duration, Instant};
 
+pub use common::Random;
+
 /// One input, with both sides' answers to it.
 pub trait Case: Clone + Debug {
     type Answer: PartialEq + Debug;
@@ -123,7 +125,8 @@ impl Report {
         }
         self.shown = Instant::now();
         let seen: u64 = more + self.lines.iter().map(|line| line.1).sum::<u64>();
-        let (seconds, (entries, of), (zeros, places, _)) = (self.began.elapsed().as_secs_f64(), self.coverage.entries(), self.coverage.zeros());
+        let (seconds, (entries, of), (zeros, places, _)) =
+            (self.began.elapsed().as_secs_f64(), self.coverage.entries(), self.coverage.zeros());
         let wrong: u64 = self.lines.iter().map(|line| line.2).sum();
         println!(
             "{seconds:.0} s, seed {}, {name}: {seen} cases, {:.0} a second, {wrong} disagreements, {entries} of {of} entry points, {zeros} of {places} places at zero",
@@ -205,33 +208,5 @@ impl Progress {
         }
         self.shown = Instant::now();
         eprintln!("{}: {seen} cases so far, {:.0} a second", self.name, seen as f64 / self.began.elapsed().as_secs_f64());
-    }
-}
-
-/// splitmix64.
-pub struct Random(u64);
-
-impl Random {
-    pub fn new(seed: u64) -> Random {
-        Random(seed)
-    }
-
-    pub fn next(&mut self) -> u64 {
-        self.0 = self.0.wrapping_add(0x9E37_79B9_7F4A_7C15);
-        let mut z = self.0;
-        z = (z ^ z >> 30).wrapping_mul(0xBF58_476D_1CE4_E5B9);
-        z = (z ^ z >> 27).wrapping_mul(0x94D0_49BB_1331_11EB);
-        z ^ z >> 31
-    }
-
-    /// A number below n.
-    pub fn below(&mut self, n: u64) -> u64 {
-        self.next() % n
-    }
-
-    /// A number of few or many bits, small ones as likely as large ones.
-    pub fn wide(&mut self) -> u64 {
-        let shift = self.below(64);
-        self.next() >> shift
     }
 }

@@ -79,6 +79,9 @@ impl Case for Above {
 
 pub fn compare(report: &mut Report) {
     report.compare("scan", report.once(SIZES).flat_map(|size| (0..size * size).map(move |i| Pos { i, size })));
-    report.compare("scan-inverse", report.once(SIZES).flat_map(|size| (0..size).flat_map(move |row| (0..size).map(move |col| Cell { col, row, size }))));
+    report.compare(
+        "scan-inverse",
+        report.once(SIZES).flat_map(|size| (0..size).flat_map(move |row| (0..size).map(move |col| Cell { col, row, size }))),
+    );
     report.compare("above", report.once(SIZES).flat_map(|size| (size..size * size).map(move |i| Above { i, size })));
 }

@@ -1,31 +1,12 @@
 //! Smoothing of index maps: indices, whether a run was moved, the error figure.
 
 use crate::assign;
-use crate::blocks::{at, round_figure, set, Call, Input, Op, Refusal, INDICES, LEVELS};
-use crate::draw::{analysed, assigned, config, one_in, one_of, whole, with_config};
+use crate::blocks::{at, drawn, given, round_figure, set, Call, Input, Op, Refusal, INDICES, LEVELS};
+use crate::draw::{assigned, config, made_or_whole, one_in, one_of, with_config};
 use crate::palette::smooth_indices;
 use crate::port;
 use crate::refusals::{self, refused, Edit};
 use crate::report::{Random, Report};
-
-extern "C" {
-    fn velomitra_smooth_indices(
-        y: *const u16,
-        y_len: usize,
-        cb: *const u16,
-        cb_len: usize,
-        cr: *const u16,
-        cr_len: usize,
-        config: *const i32,
-        config_len: usize,
-        source: *const usize,
-        source_len: usize,
-        lambda: f32,
-        bits_per_run: f32,
-        block: *mut u16,
-        block_len: usize,
-    ) -> u16;
-}
 
 pub struct Smooth;
 
@@ -44,25 +25,7 @@ impl Op for Smooth {
     /// The error figure is rounded once, as source 000's is.
     fn port(input: &mut Input) -> u8 {
         let ([y, cb, cr], lent) = (&input.planes, &mut input.lent);
-        // SAFETY: as in port.rs
-        let number = unsafe {
-            velomitra_smooth_indices(
-                y.as_ptr(),
-                y.len(),
-                cb.as_ptr(),
-                cb.len(),
-                cr.as_ptr(),
-                cr.len(),
-                input.config.as_ptr(),
-                input.config.len(),
-                input.source.as_ptr(),
-                input.source.len(),
-                input.lambda,
-                input.bits_per_run,
-                lent.block.as_mut_ptr(),
-                lent.block.len(),
-            )
-        };
+        let number = port::smooth_indices(y, cb, cr, &input.config, &input.source, input.lambda, input.bits_per_run, &mut lent.block);
         lent.changed = number % 2 == 1;
         if number < 2 {
             round_figure(&mut lent.block);
@@ -75,7 +38,8 @@ impl Op for Smooth {
 fn price(random: &mut Random) -> (f32, f32) {
     let any = [0; 2].map(|_| f32::from_bits(random.next() as u32));
     let whole = random.below(4096) as f32;
-    let (usual, limits) = ([0.25, 5.7, 57.0, 1000.0, whole, -whole], [0.0, -0.0, -1.0, 1e9, -5e7, f32::INFINITY, f32::NEG_INFINITY, f32::NAN, any[0]]);
+    let (usual, limits) =
+        ([0.25, 5.7, 57.0, 1000.0, whole, -whole], [0.0, -0.0, -1.0, 1e9, -5e7, f32::INFINITY, f32::NEG_INFINITY, f32::NAN, any[0]]);
     let lambda = if one_in(random, 3) { one_of(random, &limits) } else { one_of(random, &usual) };
     (lambda, one_of(random, &[4.0, 4.0, 4.0, 1.0, 1.0, 0.1, 0.0, -1.0, f32::INFINITY, f32::NAN, any[1]]))
 }
@@ -94,7 +58,7 @@ fn join(random: &mut Random, block: &mut [u16]) {
 }
 
 /// Blocks that source 000 made, and the caller's own; a quarter at 12 bits in format 3.
-fn drawn(random: &mut Random) -> Input {
+fn mapped(random: &mut Random) -> Input {
     let mut settings = config(random);
     settings[set::LOSSLESS] = 0;
     if one_in(random, 4) {
@@ -102,10 +66,7 @@ fn drawn(random: &mut Random) -> Input {
     }
     let mut case = with_config(random, settings);
     case.transpose = false;
-    case = match analysed(case.clone()).and_then(assigned) {
-        Some(made) if one_of(random, &[true, false]) => made,
-        _ => whole(random, case),
-    };
+    case = made_or_whole(random, case);
     let block = &mut case.lent.block;
     block[at::TRANSPOSE] = 0;
     if one_in(random, 2) {
@@ -119,7 +80,11 @@ fn drawn(random: &mut Random) -> Input {
 /// A float's place among all but the NaNs, and back.
 fn rank(x: f32) -> i64 {
     let bits = i64::from(x.to_bits());
-    if bits < 1 << 31 { bits } else { (1 << 31) - bits }
+    if bits < 1 << 31 {
+        bits
+    } else {
+        (1 << 31) - bits
+    }
 }
 
 fn of_rank(rank: i64) -> f32 {
@@ -143,7 +108,11 @@ fn at_budget(mut case: Input) -> Vec<Input> {
             none = middle;
         }
     }
-    [none - 1, none, some, some + 1].into_iter().filter(|rank| rank.abs() <= i64::from(f32::INFINITY.to_bits())).map(|rank| Input { lambda: of_rank(rank), ..case.clone() }).collect()
+    [none - 1, none, some, some + 1]
+        .into_iter()
+        .filter(|rank| rank.abs() <= i64::from(f32::INFINITY.to_bits()))
+        .map(|rank| Input { lambda: of_rank(rank), ..case.clone() })
+        .collect()
 }
 
 /// All blocks of size 2 with all palettes of up to two entries, and many of size 3, at prices in turn.
@@ -192,7 +161,8 @@ pub fn edits() -> Vec<Edit> {
             i.source = vec![2, 2, 0, 0, 0, 0, 2];
             i.planes[0] = vec![10, 200, 10, 200];
             let block = &mut i.lent.block;
-            (block[at::SIZE], block[at::ENTRIES], block[at::SIGNALED], block[at::FLAGS], block[at::ESCAPE], block[at::TOLERANCE]) = (2, 2, 2, 0, 0, 1);
+            (block[at::SIZE], block[at::ENTRIES], block[at::SIGNALED], block[at::FLAGS], block[at::ESCAPE], block[at::TOLERANCE]) =
+                (2, 2, 2, 0, 0, 1);
             refusals::set_cells(block, 0);
             block[INDICES..INDICES + 4].copy_from_slice(&[0, 1, 1, 0]);
             block[crate::blocks::PALETTE..crate::blocks::PALETTE + 6].copy_from_slice(&[10, 0, 0, 200, 0, 0]);
@@ -214,10 +184,9 @@ fn refusals() -> impl Iterator<Item = Refusal<Smooth>> {
 }
 
 pub fn compare(report: &mut Report) {
-    report.compare("smooth-small", report.once(small()).map(Call::<Smooth>::new));
-    let mut random = report.random("smooth");
-    report.compare("smooth", (0..report.blocks).map(move |_| Call::<Smooth>::new(drawn(&mut random))));
+    given::<Smooth>(report, "smooth-small", small());
+    drawn::<Smooth>(report, "smooth", mapped);
     let mut random = report.random("smooth-budget");
-    report.compare("smooth-budget", (0..report.blocks / 16).flat_map(move |_| at_budget(drawn(&mut random))).map(Call::<Smooth>::new));
+    report.compare("smooth-budget", (0..report.blocks / 16).flat_map(|_| at_budget(mapped(&mut random))).map(Call::<Smooth>::new));
     report.compare("smooth-refusals", report.once(refusals()));
 }

@@ -1,13 +1,10 @@
 //! The predictor's update.
 
-use crate::blocks::{at, Call, Input, Op, LIMIT, MOST_ENTRIES};
+use crate::blocks::{at, drawn, given, Input, Op, LIMIT, MOST_ENTRIES};
 use crate::draw::{analysed, assigned, input, one_of, whole};
+use crate::port;
 use crate::refusals::{self, refused, Edit};
 use crate::report::{Random, Report};
-
-extern "C" {
-    fn velomitra_update(predictor: *mut u16, entries: usize, block: *const u16, numbers: usize, limit: usize) -> u8;
-}
 
 pub struct Update;
 
@@ -23,9 +20,7 @@ impl Op for Update {
     }
 
     fn port(input: &mut Input) -> u8 {
-        let lent = &mut input.lent;
-        // SAFETY: as in port.rs
-        unsafe { velomitra_update(lent.predictor.as_mut_ptr(), lent.predictor.len(), lent.block.as_ptr(), lent.block.len(), input.limit) }
+        port::update(&mut input.lent.predictor, &input.lent.block, input.limit)
     }
 }
 
@@ -129,18 +124,14 @@ pub fn edits() -> Vec<Edit> {
 }
 
 pub fn compare(report: &mut Report) {
-    report.compare("update-few", report.once(few()).map(Call::<Update>::new));
-    let mut random = report.random("update");
-    report.compare(
-        "update",
-        (0..report.blocks).map(move |_| {
-            let drawn = input(&mut random);
-            let mut case = whole(&mut random, drawn);
-            case.limit = one_of(&mut random, &[0, 1, 31, 64, 100, 127, 128]);
-            Call::<Update>::new(case)
-        }),
-    );
-    let (mut random, mut before) = (report.random("update-chained"), None);
-    report.compare("update-chained", (0..report.blocks).map(move |_| Call::<Update>::new(chained(&mut random, &mut before))));
+    given::<Update>(report, "update-few", few());
+    drawn::<Update>(report, "update", |random| {
+        let case = input(random);
+        let mut case = whole(random, case);
+        case.limit = one_of(random, &[0, 1, 31, 64, 100, 127, 128]);
+        case
+    });
+    let mut before = None;
+    drawn::<Update>(report, "update-chained", |random| chained(random, &mut before));
     report.compare("update-refusals", report.once(refused::<Update>(edits())));
 }

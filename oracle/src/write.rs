@@ -1,30 +1,17 @@
 //! Bins of whole blocks, byte for byte: on planned runs, on other run lists that keep the rules, and on broken ones.
 
 use crate::bins::Bins;
-use crate::blocks::{at, triples, Call, Input, Lent, Op, BLOCK, FLAGS, INDICES, LEVELS, LIMIT, MOST_ENTRIES, PALETTE};
+use crate::blocks::{at, drawn, given, triples, Call, Input, Lent, Op, BLOCK, FLAGS, INDICES, LEVELS, LIMIT, MOST_ENTRIES, PALETTE};
 use crate::draw::{analysed, assigned, input, one_in, one_of, up_to, whole};
 use crate::palette::harness::blocks as private;
 use crate::palette::{plan_runs, write_palette_cu, PaletteConfig};
 use crate::plan::{even, maps, own, rates};
+use crate::port;
 use crate::refusals::{self, refused, Edit};
 use crate::report::{Random, Report};
 use crate::runs::{self, Map, Run, Ways};
 use crate::second::above;
 use std::cell::RefCell;
-
-extern "C" {
-    fn velomitra_write_palette_cu(
-        block: *const u16,
-        block_len: usize,
-        runs: *const u32,
-        runs_len: usize,
-        count: usize,
-        bins: *mut u8,
-        bins_len: usize,
-        used: *mut usize,
-        used_len: usize,
-    ) -> u8;
-}
 
 /// The run list is `runs`, of which `count` are told.
 pub struct Write;
@@ -50,20 +37,7 @@ impl Op for Write {
 
     fn port(input: &mut Input) -> u8 {
         let lent = &mut input.lent;
-        // SAFETY: as in port.rs
-        unsafe {
-            velomitra_write_palette_cu(
-                lent.block.as_ptr(),
-                lent.block.len(),
-                lent.runs.as_ptr(),
-                lent.runs.len(),
-                lent.count[0],
-                lent.bins.as_mut_ptr(),
-                lent.bins.len(),
-                lent.used.as_mut_ptr(),
-                lent.used.len(),
-            )
-        }
+        port::write_palette_cu(&lent.block, &lent.runs, lent.count[0], &mut lent.bins, &mut lent.used)
     }
 }
 
@@ -227,7 +201,7 @@ pub fn lend(input: &mut Input, runs: &[Run], more: usize) {
     (lent.bins, lent.used) = (vec![99; length + more], vec![7]);
 }
 
-fn drawn(random: &mut Random) -> Input {
+fn writable(random: &mut Random) -> Input {
     let mut case = block(random);
     let runs = run_list(random, &case.lent);
     lend(&mut case, &runs, 3);
@@ -404,14 +378,13 @@ fn lent(mut edit: crate::blocks::Refusal<Write>) -> crate::blocks::Refusal<Write
 }
 
 pub fn compare(report: &mut Report) {
-    report.compare("write-small", report.once(small()).map(Call::<Write>::new));
-    report.compare("write-escapes", report.once(escapes()).map(Call::<Write>::new));
-    report.compare("write-even", report.once(long()).map(Call::<Write>::new));
-    let mut random = report.random("write");
-    report.compare("write", (0..report.blocks).map(move |_| Call::<Write>::new(drawn(&mut random))));
+    given::<Write>(report, "write-small", small());
+    given::<Write>(report, "write-escapes", escapes());
+    given::<Write>(report, "write-even", long());
+    drawn::<Write>(report, "write", writable);
     let most = longest();
     assert_eq!(most.lent.bins.len(), LONGEST);
-    report.compare("write-longest", report.once([Call::<Write>::new(most)]));
+    given::<Write>(report, "write-longest", [most]);
     let mut random = report.random("write-broken");
     let due = RefCell::new([0; 16]);
     let cases = (0..report.blocks as u64).map(|k| {
