@@ -1,12 +1,13 @@
 -- A call of update that is in order, over the lists of numbers.
 use mathlib.Core.Path.{_≡_}
-use mathlib.Core.Bool.{Bool}
+use mathlib.Core.Bool.{Bool, true}
 use mathlib.Core.List.{List}
 use Prim.Native.Nat.{ℕ, _≤_}
 use lib.ListN.{length}
 use Rattle.base.specs.Pick.{pick}
 use Rattle.flat.specs.Flat.{number, blockOf, predictorOf}
 use Rattle.model.specs.Domain.{most}
+use Rattle.model.specs.Whole.{holds}
 use Rattle.predictor.specs.Update.{updateRefusal}
 use Rattle.whole.specs.Parts.{frameHolds}
 
@@ -17,6 +18,11 @@ framedOf b = frameHolds 64 (blockOf b .size) (blockOf b .«chroma_idc») (blockO
 -- the greatest level at the luma depth
 abbrev pub levelMost : List ℕ → ℕ
 levelMost b = pick (blockOf b .lossless) (most (blockOf b .«bd_luma»)) 32767
+
+-- the list is whole and its block holds together
+pub record BlockReady (b : List ℕ) : Type 0 where
+  pub block : 4432 ≤ length b
+  pub together : holds 64 (blockOf b) ≡ true
 
 -- both lists are whole, nothing is refused, and counts are in their bounds
 pub record Ready (p b : List ℕ) (limit : ℕ) : Type 0 where

@@ -20,7 +20,7 @@ use Rattle.model.specs.Domain.{most, mostChroma, colorIn, noColor, predictorIn}
 use Rattle.model.specs.Whole.{blockSizeIn, maxIndex, levelIn, levelsIn, noLevels, cellHolds, holds}
 use Rattle.predictor.specs.Update.{updateRefusal}
 use Rattle.whole.specs.Parts.{sizeHolds, formatAre, frameHolds, holds-rest, holds-bounds}
-use Rattle.flatready.specs.Ready.{framedOf, levelMost, Ready}
+use Rattle.flatready.specs.Ready.{framedOf, levelMost, BlockReady, Ready}
 
 -- tests joined in a row are those joined in groups
 pub frame-row : (a b c d e f g : Bool) → ands a (b ∷ c ∷ d ∷ e ∷ f ∷ g ∷ []) ≡ every (every (a ∷ b ∷ []) ∷ every (c ∷ d ∷ e ∷ []) ∷ f ∷ g ∷ [])
@@ -178,7 +178,7 @@ module _ (p b : List ℕ) (limit : ℕ) (f : Bool) (is : f ≡ framedOf b) (coun
           rw (← quick-is .same)
           (at-up-to _ (number b 5) (λ i k. rw (each-at noColor noColor 64 (λ (j : ℕ). colorAt b (16 + 3 * j)) i (omega (arith, bounds .1))) (colors-fit b 16 (number b 5) m (byte (number b 1)) (byte (number b 2)) low e z i k)))
 
-      holds-quick : trues (take (number b 6) (blockOf b .reused)) + number b 7 ≡ number b 5 → upTo (3 * number b 5) (λ i. leb (number b (16 + i)) m) ≡ true → upTo (number b 0 * number b 0) (cellHolds (blockOf b)) ≡ true → holds 64 (blockOf b) ≡ true
+      pub holds-quick : trues (take (number b 6) (blockOf b .reused)) + number b 7 ≡ number b 5 → upTo (3 * number b 5) (λ i. leb (number b (16 + i)) m) ≡ true → upTo (number b 0 * number b 0) (cellHolds (blockOf b)) ≡ true → holds 64 (blockOf b) ≡ true
       unfolding blockOf
       holds-quick t e c =
           sym (holds-rest 64 (blockOf b) f is true true true true counted (sym (eq-eqb _ _ t)) (sym (entries-fit e)) (sym c) (sym (rw (ne-eqb (number b 5) 0 (λ w. omega (arith, quick-is .some))))))
@@ -197,3 +197,21 @@ module _ (p b : List ℕ) (limit : ℕ) (f : Bool) (is : f ≡ framedOf b) (coun
             entries = bounds .1;
             size = quick-is .size;
           }
+
+-- ---- a block alone
+
+pub wider : (a b c : Bool) → ands a (b ∷ c ∷ []) ≡ true → ands a (b ∷ c ∷ true ∷ true ∷ []) ≡ true
+wider a b c e = rw e
+
+module _ (b : List ℕ) (f : Bool) (is : f ≡ framedOf b) (counted : f && leb (number b 6) 128 ≡ true) (quick : ands (leb 1 (number b 5)) (leb 1 (number b 1) ∷ eqb (number b 2) (number b 3) ∷ []) ≡ true) where
+  pub block-quick : Quick [] b 0 f is counted (wider (leb 1 (number b 5)) (leb 1 (number b 1)) (eqb (number b 2) (number b 3)) quick)
+  block-quick = quick-is [] b 0 f is counted (wider (leb 1 (number b 5)) (leb 1 (number b 1)) (eqb (number b 2) (number b 3)) quick)
+
+  pub block-made : (m : ℕ) → m ≤ most (byte (number b 2)) → (t : ℕ) (c e : Bool) → 4432 ≤ length b → t ≡ trues (take (number b 6) (blockOf b .reused)) → c ≡ upTo (3 * number b 5) (λ i. leb (number b (16 + i)) m) → (e ≡ true → upTo (number b 0 * number b 0) (cellHolds (blockOf b)) ≡ true) → ands (eqb (t + number b 7) (number b 5)) (c ∷ e ∷ []) ≡ true → BlockReady b
+  block-made m low t c e lb et ec ee all =
+      let u = both (eqb (t + number b 7) (number b 5)) _ (sym (ands-every (eqb (t + number b 7) (number b 5)) (c ∷ e ∷ [])) ∙ all) in
+      let v = both c _ (u .1) in
+      record {
+        block = lb;
+        together = holds-quick [] b 0 f is counted (wider (leb 1 (number b 5)) (leb 1 (number b 1)) (eqb (number b 2) (number b 3)) quick) m low (ap (λ (x : ℕ). x + number b 7) (sym et) ∙ eqb-true (t + number b 7) (number b 5) (u .0)) (sym ec ∙ v .0) (ee (both e true (v .1) .0));
+      }

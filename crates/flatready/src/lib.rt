@@ -10,7 +10,7 @@ ghost use Rattle.h265.specs.Reuse.{trues};
 ghost use Rattle.flat.specs.Flat.{number, byte, blockOf};
 ghost use Rattle.model.specs.Domain.{most};
 ghost use Rattle.model.specs.Whole.{cellHolds};
-ghost use Rattle.flatready.specs.Ready.{framedOf, levelMost, Ready};
+ghost use Rattle.flatready.specs.Ready.{framedOf, levelMost, BlockReady, Ready};
 use domain::depth_in;
 use domain::even_in;
 use domain::most_in;
@@ -122,6 +122,28 @@ pub fn ready(predictor: &[u16], block: &[u16], limit: usize) -> bool
             return (t + block[7] as usize == n as usize)
                 & at_most(block, 16, 3 * n as usize, m)
                 & at_most(predictor, 1, 3 * size, m)
+                & cells_ready(block, side * side, n);
+        }
+    }
+    false
+}
+
+// Yes only where a block's list is whole and the block holds together.
+pub fn block_ready(block: &[u16]) -> bool
+    ensures { λ r. ⌜ (r ≡ true → BlockReady (now (block .entry))) ⌝ }
+{
+    if block.len() < 4432 {
+        return false;
+    }
+    let n = block[5];
+    let count = block[6] as usize;
+    if framed(block) & (count <= 128) {
+        if (1 <= n) & (1 <= block[1]) & (block[2] == block[3]) {
+            let side = block[0] as usize;
+            let m = most_in(byte(block[2]));
+            let t = reused(block, count);
+            return (t + block[7] as usize == n as usize)
+                & at_most(block, 16, 3 * n as usize, m)
                 & cells_ready(block, side * side, n);
         }
     }
