@@ -1,25 +1,17 @@
-// The predictor's update for other languages, nothing required. Predictor and block are lists of numbers, as crate flat lays them out. A call that is in order is answered from the lists; any other by way of the records.
+// The predictor's update for other languages, nothing required. Predictor and block are lists of numbers, as crate flat lays them out. A call that is in order is answered on the lists; any other by way of the records.
 ghost use mathlib.Core.Path.{_≡_};
-ghost use mathlib.Core.List.{_∷_};
-ghost use Prim.Native.Nat.{_≤_, min};
-ghost use lib.ListN.{length, take};
+ghost use Prim.Native.Nat.{_+_, _*_, _-_, _≤_, min};
+ghost use lib.ListN.{length, take, drop, set, replicate};
 ghost use lib.Seq.{sets};
-ghost use Rattle.flat.specs.Flat.{blockOf, colorsOf};
+ghost use Rattle.flat.specs.Flat.{flatPredictor};
 ghost use Rattle.flatready.specs.Ready.{Ready};
-ghost use Rattle.predictor.specs.Update.{padded};
 ghost use Rattle.exports_update.specs.Calls.{updateOut};
-ghost use Rattle.exports_update.specs.Renewing.{Renewed};
+ghost use Rattle.exports_update.specs.Renewing.{Kept, afterOf};
 use flat::block_of;
 use flat::predictor_of;
 use flatready::ready;
 use layflat::lay_predictor;
 use predictor::update;
-
-// A predictor's numbers after its size, and its size.
-struct Entries {
-    numbers: [u16; 384],
-    size: usize,
-}
 
 // The smaller of two numbers.
 fn least(a: usize, b: usize) -> usize
@@ -31,67 +23,77 @@ fn least(a: usize, b: usize) -> usize
     b
 }
 
-// The first n entries of a block's palette, and none after them.
-fn palette_first(block: &[u16], n: usize) -> [u16; 384]
-    requires { ⌜ (n ≤ 64) × (4432 ≤ length (now block)) ⌝ }
-    ensures { λ r. ⌜ r ≡ colorsOf (padded 128 (take n (blockOf (now (block .entry)) .palette))) ⌝ }
+// n numbers of a list from a place on, laid on another.
+fn copy(list: &mut [u16], to: usize, source: &[u16], from: usize, n: usize)
+    requires { ⌜ (to + n ≤ length (now list)) × (from + n ≤ length (now source)) × (to ≤ 385) × (from ≤ 4432) × (n ≤ 384) ⌝ }
+    ensures { λ _. ⌜ now (list .exit) ≡ sets (now (list .entry)) to (take n (drop from (now (source .entry)))) ⌝ }
 {
-    let mut out: [u16; 384] = [0; 384];
     let mut i: usize = 0;
     while i < n {
-        out[3 * i] = block[16 + 3 * i];
-        out[3 * i + 1] = block[16 + 3 * i + 1];
-        out[3 * i + 2] = block[16 + 3 * i + 2];
+        list[to + i] = source[from + i];
         i += 1;
     }
-    out
 }
 
-// The palette, then the old entries that were not reused, up to the limit.
-fn renewed(predictor: &[u16], block: &[u16], limit: usize) -> Entries
-    requires { ⌜ Ready (now predictor) (now block) limit ⌝ }
-    ensures { λ r. ⌜ Renewed (now (predictor .entry)) (now (block .entry)) limit (r .size) (r .numbers) ⌝ }
+// The old entries whose flags are off, of those that have flags, laid after the first entries, up to the limit; and how many entries stand then.
+fn keep(
+    list: &mut [u16],
+    old: &[u16],
+    block: &[u16],
+    first: usize,
+    flags: usize,
+    limit: usize,
+) -> usize
+    requires { ⌜ (385 ≤ length (now list)) × (384 ≤ length (now old)) × (4432 ≤ length (now block)) × (first ≤ limit) × (limit ≤ 128) × (flags ≤ 128) ⌝ }
+    ensures { λ r. ⌜ Kept (now (list .entry)) (now (old .entry)) (now (block .entry)) first flags limit r (now (list .exit)) ⌝ }
 {
-    let n = block[5] as usize;
-    let count = block[6] as usize;
-    let size = predictor[0] as usize;
-    let mut k = least(n, limit);
-    let mut out = palette_first(block, k);
+    let mut k = first;
     let mut j: usize = 0;
-    while j < size {
+    while j < flags {
         if limit <= k {
-            return Entries {
-                numbers: out,
-                size: k,
-            };
+            return k;
         }
-        if (block[208 + j] == 1) & (j < count) {
+        if block[208 + j] == 1 {
             j += 1;
         } else {
-            out[3 * k] = predictor[1 + 3 * j];
-            out[3 * k + 1] = predictor[1 + 3 * j + 1];
-            out[3 * k + 2] = predictor[1 + 3 * j + 2];
+            list[1 + 3 * k] = old[3 * j];
+            list[1 + 3 * k + 1] = old[3 * j + 1];
+            list[1 + 3 * k + 2] = old[3 * j + 2];
             k += 1;
             j += 1;
         }
     }
-    Entries {
-        numbers: out,
-        size: k,
+    k
+}
+
+// The size, and no entry after so many.
+fn finish(list: &mut [u16], size: usize)
+    requires { ⌜ (385 ≤ length (now list)) × (size ≤ 128) ⌝ }
+    ensures { λ _. ⌜ now (list .exit) ≡ sets (set (now (list .entry)) 0 size) (1 + 3 * size) (replicate (384 - 3 * size) 0) ⌝ }
+{
+    list[0] = size as u16;
+    let mut i: usize = 3 * size;
+    while i < 384 {
+        list[1 + i] = 0;
+        i += 1;
     }
 }
 
-// A predictor's size and numbers.
-fn lay(list: &mut [u16], numbers: [u16; 384], size: u16)
-    requires { ⌜ 385 ≤ length (now list) ⌝ }
-    ensures { λ _. ⌜ now (list .exit) ≡ sets (now (list .entry)) 0 (size ∷ numbers) ⌝ }
+// The palette, then the old entries that were not reused, up to the limit: those that have flags, then the rest of them.
+fn renew(list: &mut [u16], block: &[u16], limit: usize)
+    requires { ⌜ Ready (now list) (now block) limit ⌝ }
+    ensures { λ _. ⌜ now (list .exit) ≡ sets (now (list .entry)) 0 (flatPredictor (afterOf (now (list .entry)) (now (block .entry)) limit)) ⌝ }
 {
-    list[0] = size;
-    let mut i: usize = 0;
-    while i < 384 {
-        list[1 + i] = numbers[i];
-        i += 1;
-    }
+    let size = list[0] as usize;
+    let mut old: [u16; 384] = [0; 384];
+    copy(&mut old, 0, list, 1, 384);
+    let first = least(block[5] as usize, limit);
+    copy(list, 1, block, 16, 3 * first);
+    let flags = least(block[6] as usize, size);
+    let k = keep(list, &old, block, first, flags, limit);
+    let more = least(size - flags, limit - k);
+    copy(list, 1 + 3 * k, &old, 3 * flags, 3 * more);
+    finish(list, k + more);
 }
 
 // The predictor after a block.
@@ -100,9 +102,7 @@ pub extern "C" fn velomitra_update(predictor: &mut [u16], block: &[u16], limit: 
     ensures { λ r. ⌜ (r, now (predictor .exit)) ≡ updateOut (now (predictor .entry)) (now (block .entry)) limit ⌝ }
 {
     if ready(predictor, block, limit) {
-        let after = renewed(predictor, block, limit);
-        let numbers = after.numbers;
-        lay(predictor, numbers, after.size as u16);
+        renew(predictor, block, limit);
         return 0;
     }
     let p = predictor_of(predictor);

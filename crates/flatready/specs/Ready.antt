@@ -1,4 +1,4 @@
--- A call of update that is in order, over the lists of numbers.
+-- A block that holds together and a call of update that is in order, over the lists of numbers.
 use mathlib.Core.Path.{_≡_}
 use mathlib.Core.Bool.{Bool, true}
 use mathlib.Core.List.{List}
@@ -19,10 +19,14 @@ framedOf b = frameHolds 64 (blockOf b .size) (blockOf b .«chroma_idc») (blockO
 abbrev pub levelMost : List ℕ → ℕ
 levelMost b = pick (blockOf b .lossless) (most (blockOf b .«bd_luma»)) 32767
 
--- the list is whole and its block holds together
+-- the list is whole and its block holds together, with entries, chroma and one depth
 pub record BlockReady (b : List ℕ) : Type 0 where
   pub block : 4432 ≤ length b
   pub together : holds 64 (blockOf b) ≡ true
+  pub entries : number b 5 ≤ 64
+  pub some : 1 ≤ number b 5
+  pub chroma : 1 ≤ number b 1
+  pub same : number b 2 ≡ number b 3
 
 -- both lists are whole, nothing is refused, and counts are in their bounds
 pub record Ready (p b : List ℕ) (limit : ℕ) : Type 0 where

@@ -10,7 +10,7 @@ use lib.Dec.{eqb, leb}
 use lib.ListN.{length, take, drop, getD, length-replicate}
 use Rattle.base.specs.Cells.{laid-length}
 use Rattle.base.specs.Pick.{pick, either, true-false}
-use Rattle.base.specs.Tests.{every, any, both, ands, ands-every, upTo, up-to-at, at-up-to}
+use Rattle.base.specs.Tests.{every, any, both, ands, ands-every, and-pick, upTo, up-to-at, at-up-to}
 use Rattle.h265.specs.Reuse.{trues}
 use Rattle.h265.specs.ReuseLaws.{trues-at, trues-end}
 use Rattle.h265.specs.Strings.{bit}
@@ -119,18 +119,9 @@ module _ (b : List ℕ) (n : ℕ) (is : n ≡ number b 5) (some : 1 ≤ n) (few 
         let t = levels-fit i k (omega arith) in
         rw (z, greatest i l, t) (either (eqb (number b (336 + i)) (blockOf b .«palette_size»)) (λ w. rw w) (λ w. rw w)))
 
--- ---- the call
+-- ---- the block
 
-no-refusal : (p b : List ℕ) (limit : ℕ) → blockSizeIn (blockOf b) ≡ true → predictorIn (blockOf b .«chroma_idc») (blockOf b .«bd_luma») (blockOf b .«bd_chroma») (predictorOf p) ≡ true → limit ≤ 128 → holds 64 (blockOf b) ≡ true → updateRefusal (predictorOf p) (blockOf b) limit ≡ 0
-unfolding updateRefusal
-no-refusal p b limit s q l h = rw (s, q, le-leb limit 128 l, h)
-
--- what holds together has a size
-sized : (limit : ℕ) (b : List ℕ) → holds limit (blockOf b) ≡ true → blockSizeIn (blockOf b) ≡ true
-unfolding holds
-sized limit b e = both (blockSizeIn (blockOf b)) _ e .0
-
-module _ (p b : List ℕ) (limit : ℕ) (f : Bool) (is : f ≡ framedOf b) (counted : f && leb (number b 6) 128 ≡ true) where
+module _ (b : List ℕ) (f : Bool) (is : f ≡ framedOf b) (counted : f && leb (number b 6) 128 ≡ true) where
   bounds : (number b 0 ≤ 32) × (number b 5 ≤ 64) × (number b 6 ≤ 128)
   unfolding blockOf
   bounds = holds-bounds 64 (blockOf b) f is counted
@@ -145,32 +136,19 @@ module _ (p b : List ℕ) (limit : ℕ) (f : Bool) (is : f ≡ framedOf b) (coun
   flags-few = bounds .2
 
   -- the tests that make the quick way one for formats with chroma, one depth and a palette
-  module _ (quick : ands (leb 1 (number b 5)) (leb 1 (number b 1) ∷ eqb (number b 2) (number b 3) ∷ leb (number p 0) 128 ∷ leb limit 128 ∷ []) ≡ true) where
+  module _ (quick : ands (leb 1 (number b 5)) (leb 1 (number b 1) ∷ eqb (number b 2) (number b 3) ∷ []) ≡ true) where
     pub record Quick : Type 0 where
       pub some : 1 ≤ number b 5
       pub chroma : 1 ≤ number b 1
       pub same : number b 2 ≡ number b 3
-      pub size : number p 0 ≤ 128
-      pub most : limit ≤ 128
 
     pub quick-is : Quick
     quick-is =
-        let t = both (leb 1 (number b 5)) _ (sym (ands-every (leb 1 (number b 5)) (leb 1 (number b 1) ∷ eqb (number b 2) (number b 3) ∷ leb (number p 0) 128 ∷ leb limit 128 ∷ [])) ∙ quick) in
+        let t = both (leb 1 (number b 5)) _ (sym (ands-every (leb 1 (number b 5)) (leb 1 (number b 1) ∷ eqb (number b 2) (number b 3) ∷ [])) ∙ quick) in
         let u = both (leb 1 (number b 1)) _ (t .1) in
-        let v = both (eqb (number b 2) (number b 3)) _ (u .1) in
-        let w = both (leb (number p 0) 128) _ (v .1) in
-        record { some = leb-true _ _ (t .0); chroma = leb-true _ _ (u .0); same = eqb-true _ _ (v .0); size = leb-true _ _ (w .0); most = leb-true _ _ (both (leb limit 128) true (w .1) .0) }
+        record { some = leb-true _ _ (t .0); chroma = leb-true _ _ (u .0); same = eqb-true _ _ (both (eqb (number b 2) (number b 3)) true (u .1) .0) }
 
     module _ (m : ℕ) (low : m ≤ most (byte (number b 2))) where
-      predictor-fits : upTo (3 * number p 0) (λ i. leb (number p (1 + i)) m) ≡ true → predictorIn (blockOf b .«chroma_idc») (blockOf b .«bd_luma») (blockOf b .«bd_chroma») (predictorOf p) ≡ true
-      unfolding blockOf predictorOf predictorIn
-      predictor-fits e =
-          let z : eqb (byte (number b 1)) 0 ≡ false = byte-some (number b 1) (quick-is .chroma) in
-          let a : upTo (number p 0) (λ i. colorIn (byte (number b 1)) (byte (number b 2)) (byte (number b 2)) (getD (each noColor 128 (λ i. colorAt p (1 + 3 * i))) i noColor)) ≡ true =
-          at-up-to _ (number p 0) (λ i k. rw (each-at noColor noColor 128 (λ (j : ℕ). colorAt p (1 + 3 * j)) i (omega (arith, quick-is .size))) (colors-fit p 1 (number p 0) m (byte (number b 1)) (byte (number b 2)) low e z i k))
-          in
-          rw (← quick-is .same, le-leb (number p 0) 128 (quick-is .size), a)
-
       entries-fit : upTo (3 * number b 5) (λ i. leb (number b (16 + i)) m) ≡ true → upTo (blockOf b .«palette_size») (λ i. colorIn (blockOf b .«chroma_idc») (blockOf b .«bd_luma») (blockOf b .«bd_chroma») (getD (blockOf b .palette) i noColor)) ≡ true
       unfolding blockOf
       entries-fit e =
@@ -178,40 +156,57 @@ module _ (p b : List ℕ) (limit : ℕ) (f : Bool) (is : f ≡ framedOf b) (coun
           rw (← quick-is .same)
           (at-up-to _ (number b 5) (λ i k. rw (each-at noColor noColor 64 (λ (j : ℕ). colorAt b (16 + 3 * j)) i (omega (arith, bounds .1))) (colors-fit b 16 (number b 5) m (byte (number b 1)) (byte (number b 2)) low e z i k)))
 
-      pub holds-quick : trues (take (number b 6) (blockOf b .reused)) + number b 7 ≡ number b 5 → upTo (3 * number b 5) (λ i. leb (number b (16 + i)) m) ≡ true → upTo (number b 0 * number b 0) (cellHolds (blockOf b)) ≡ true → holds 64 (blockOf b) ≡ true
+      holds-quick : trues (take (number b 6) (blockOf b .reused)) + number b 7 ≡ number b 5 → upTo (3 * number b 5) (λ i. leb (number b (16 + i)) m) ≡ true → upTo (number b 0 * number b 0) (cellHolds (blockOf b)) ≡ true → holds 64 (blockOf b) ≡ true
       unfolding blockOf
       holds-quick t e c =
           sym (holds-rest 64 (blockOf b) f is true true true true counted (sym (eq-eqb _ _ t)) (sym (entries-fit e)) (sym c) (sym (rw (ne-eqb (number b 5) 0 (λ w. omega (arith, quick-is .some))))))
 
-      pub ready-made : (t : ℕ) (c d e : Bool) → 4432 ≤ length b → 385 ≤ length p → t ≡ trues (take (number b 6) (blockOf b .reused)) → c ≡ upTo (3 * number b 5) (λ i. leb (number b (16 + i)) m) → d ≡ upTo (3 * number p 0) (λ i. leb (number p (1 + i)) m) → (e ≡ true → upTo (number b 0 * number b 0) (cellHolds (blockOf b)) ≡ true) → ands (eqb (t + number b 7) (number b 5)) (c ∷ d ∷ e ∷ []) ≡ true → Ready p b limit
-      ready-made t c d e lb lp et ec ed ee all =
-          let u = both (eqb (t + number b 7) (number b 5)) _ (sym (ands-every (eqb (t + number b 7) (number b 5)) (c ∷ d ∷ e ∷ [])) ∙ all) in
+      pub block-ready : (t : ℕ) (c d : Bool) → 4432 ≤ length b → t ≡ trues (take (number b 6) (blockOf b .reused)) → c ≡ upTo (3 * number b 5) (λ i. leb (number b (16 + i)) m) → (d ≡ true → upTo (number b 0 * number b 0) (cellHolds (blockOf b)) ≡ true) → ands (eqb (t + number b 7) (number b 5)) (c ∷ d ∷ []) ≡ true → BlockReady b
+      block-ready t c d lb et ec ed all =
+          let u = both (eqb (t + number b 7) (number b 5)) _ (sym (ands-every (eqb (t + number b 7) (number b 5)) (c ∷ d ∷ [])) ∙ all) in
           let v = both c _ (u .1) in
-          let w = both d _ (v .1) in
-          let h = holds-quick (ap (λ (x : ℕ). x + number b 7) (sym et) ∙ eqb-true (t + number b 7) (number b 5) (u .0)) (sym ec ∙ v .0) (ee (both e true (w .1) .0)) in
           record {
-            none = no-refusal p b limit (sized 64 b h) (predictor-fits (sym ed ∙ w .0)) (quick-is .most) h;
             block = lb;
-            predictor = lp;
-            most = quick-is .most;
+            together = holds-quick (ap (λ (x : ℕ). x + number b 7) (sym et) ∙ eqb-true (t + number b 7) (number b 5) (u .0)) (sym ec ∙ v .0) (ed (both d true (v .1) .0));
             entries = bounds .1;
-            size = quick-is .size;
+            some = quick-is .some;
+            chroma = quick-is .chroma;
+            same = quick-is .same;
           }
 
--- ---- a block alone
+-- ---- the call
 
-pub wider : (a b c : Bool) → ands a (b ∷ c ∷ []) ≡ true → ands a (b ∷ c ∷ true ∷ true ∷ []) ≡ true
-wider a b c e = rw e
+no-refusal : (p b : List ℕ) (limit : ℕ) → blockSizeIn (blockOf b) ≡ true → predictorIn (blockOf b .«chroma_idc») (blockOf b .«bd_luma») (blockOf b .«bd_chroma») (predictorOf p) ≡ true → limit ≤ 128 → holds 64 (blockOf b) ≡ true → updateRefusal (predictorOf p) (blockOf b) limit ≡ 0
+unfolding updateRefusal
+no-refusal p b limit s q l h = rw (s, q, le-leb limit 128 l, h)
 
-module _ (b : List ℕ) (f : Bool) (is : f ≡ framedOf b) (counted : f && leb (number b 6) 128 ≡ true) (quick : ands (leb 1 (number b 5)) (leb 1 (number b 1) ∷ eqb (number b 2) (number b 3) ∷ []) ≡ true) where
-  pub block-quick : Quick [] b 0 f is counted (wider (leb 1 (number b 5)) (leb 1 (number b 1)) (eqb (number b 2) (number b 3)) quick)
-  block-quick = quick-is [] b 0 f is counted (wider (leb 1 (number b 5)) (leb 1 (number b 1)) (eqb (number b 2) (number b 3)) quick)
+-- what holds together has a size
+sized : (limit : ℕ) (b : List ℕ) → holds limit (blockOf b) ≡ true → blockSizeIn (blockOf b) ≡ true
+unfolding holds
+sized limit b e = both (blockSizeIn (blockOf b)) _ e .0
 
-  pub block-made : (m : ℕ) → m ≤ most (byte (number b 2)) → (t : ℕ) (c e : Bool) → 4432 ≤ length b → t ≡ trues (take (number b 6) (blockOf b .reused)) → c ≡ upTo (3 * number b 5) (λ i. leb (number b (16 + i)) m) → (e ≡ true → upTo (number b 0 * number b 0) (cellHolds (blockOf b)) ≡ true) → ands (eqb (t + number b 7) (number b 5)) (c ∷ e ∷ []) ≡ true → BlockReady b
-  block-made m low t c e lb et ec ee all =
-      let u = both (eqb (t + number b 7) (number b 5)) _ (sym (ands-every (eqb (t + number b 7) (number b 5)) (c ∷ e ∷ [])) ∙ all) in
-      let v = both c _ (u .1) in
-      record {
-        block = lb;
-        together = holds-quick [] b 0 f is counted (wider (leb 1 (number b 5)) (leb 1 (number b 1)) (eqb (number b 2) (number b 3)) quick) m low (ap (λ (x : ℕ). x + number b 7) (sym et) ∙ eqb-true (t + number b 7) (number b 5) (u .0)) (sym ec ∙ v .0) (ee (both e true (v .1) .0));
-      }
+module _ (p b : List ℕ) (limit : ℕ) (r : BlockReady b) (counts : leb (number p 0) 128 && leb limit 128 ≡ true) where
+  pub within : (number p 0 ≤ 128) × (limit ≤ 128)
+  within =
+      let t = both (leb (number p 0) 128) (leb limit 128) (sym (and-pick (leb (number p 0) 128) (leb limit 128)) ∙ counts) in
+      (leb-true _ _ (t .0), leb-true _ _ (t .1))
+
+  module _ (m : ℕ) (low : m ≤ most (byte (number b 2))) where
+    predictor-fits : upTo (3 * number p 0) (λ i. leb (number p (1 + i)) m) ≡ true → predictorIn (blockOf b .«chroma_idc») (blockOf b .«bd_luma») (blockOf b .«bd_chroma») (predictorOf p) ≡ true
+    unfolding blockOf predictorOf predictorIn
+    predictor-fits e =
+        let z : eqb (byte (number b 1)) 0 ≡ false = byte-some (number b 1) (r .chroma) in
+        let a : upTo (number p 0) (λ i. colorIn (byte (number b 1)) (byte (number b 2)) (byte (number b 2)) (getD (each noColor 128 (λ i. colorAt p (1 + 3 * i))) i noColor)) ≡ true =
+        at-up-to _ (number p 0) (λ i k. rw (each-at noColor noColor 128 (λ (j : ℕ). colorAt p (1 + 3 * j)) i (omega (arith, within .0))) (colors-fit p 1 (number p 0) m (byte (number b 1)) (byte (number b 2)) low e z i k))
+        in
+        rw (← r .same, le-leb (number p 0) 128 (within .0), a)
+
+    pub ready-made : 385 ≤ length p → upTo (3 * number p 0) (λ i. leb (number p (1 + i)) m) ≡ true → Ready p b limit
+    ready-made lp e = record {
+      none = no-refusal p b limit (sized 64 b (r .together)) (predictor-fits e) (within .1) (r .together);
+      block = r .block;
+      predictor = lp;
+      most = within .1;
+      entries = r .entries;
+      size = within .0;
+    }

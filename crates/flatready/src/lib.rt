@@ -1,7 +1,7 @@
-// Whether an update refuses nothing, seen from the lists of numbers without making the records: a quick test that may say no of a call that is in order, never yes of one that is not.
+// Whether a block holds together, and whether an update refuses nothing, seen from the lists of numbers without making the records: quick tests that may say no of what is in order, never yes of what is not.
 ghost use mathlib.Core.Path.{_≡_};
 ghost use mathlib.Core.Bool.{true};
-ghost use Prim.Native.Nat.{_+_, _*_, _≤_, min};
+ghost use Prim.Native.Nat.{ℕ, _+_, _-_, _*_, _≤_, _<_, min};
 ghost use lib.Dec.{leb};
 ghost use lib.ListN.{length, take};
 ghost use Rattle.base.specs.Pick.{pick};
@@ -11,6 +11,7 @@ ghost use Rattle.flat.specs.Flat.{number, byte, blockOf};
 ghost use Rattle.model.specs.Domain.{most};
 ghost use Rattle.model.specs.Whole.{cellHolds};
 ghost use Rattle.flatready.specs.Ready.{framedOf, levelMost, BlockReady, Ready};
+ghost use Rattle.flatready.specs.Reach.{Under};
 use domain::depth_in;
 use domain::even_in;
 use domain::most_in;
@@ -39,6 +40,55 @@ fn at_most(list: &[u16], from: usize, n: usize, m: u16) -> bool
         i += 1;
     }
     ok
+}
+
+// How far a number is over another, 0 where it is not.
+fn over(x: u16, m: u16) -> u16
+    ensures { λ r. ⌜ r ≡ x - m ⌝ }
+{
+    if m < x {
+        return x - m;
+    }
+    0
+}
+
+// A number that none of four is over m by more than.
+fn over_four(a: u16, b: u16, c: u16, d: u16, m: u16) -> u16
+    ensures { λ r. ⌜ (a ≤ m + r) × (b ≤ m + r) × (c ≤ m + r) × (d ≤ m + r) ⌝ }
+{
+    (over(a, m) | over(b, m)) | (over(c, m) | over(d, m))
+}
+
+// A number that none of 4 n numbers from a place on is over m by more than: the bits of all that they are over it, four stretches at a time.
+fn reach(list: &[u16], from: usize, n: usize, m: u16) -> u16
+    requires { ⌜ (from + 4 * n ≤ length (now list)) × (from ≤ 4432) × (n ≤ 1108) ⌝ }
+    ensures { λ r. ⌜ Under (now (list .entry)) from (4 * n) m r ⌝ }
+{
+    let mut r: u16 = 0;
+    let mut i: usize = 0;
+    while i < n {
+        let x = over_four(
+            list[from + i],
+            list[from + n + i],
+            list[from + 2 * n + i],
+            list[from + 3 * n + i],
+            m,
+        );
+        r = r | x;
+        i += 1;
+    }
+    r
+}
+
+// Whether n numbers from a place on are at most m: all that have room there, or else these.
+fn fit(list: &[u16], from: usize, quarter: usize, n: usize, m: u16) -> bool
+    requires { ⌜ (from + 4 * quarter ≤ length (now list)) × (from ≤ 4432) × (quarter ≤ 1108) × (n ≤ 4 * quarter) ⌝ }
+    ensures { λ r. ⌜ r ≡ upTo n (λ i. leb (number (now (list .entry)) (from + i)) m) ⌝ }
+{
+    if reach(list, from, quarter, 0) <= m {
+        return true;
+    }
+    at_most(list, from, n, m)
 }
 
 // How many of the first `count` flags of a block are on.
@@ -91,44 +141,18 @@ fn cells_ready(list: &[u16], cells: usize, n: u16) -> bool
     requires { ⌜ (4432 ≤ length (now list)) × (cells ≤ 1024) × (1 ≤ n) × (n ≤ 64) × (n ≡ number (now list) 5) × (number (now list) 2 ≡ number (now list) 3) ⌝ }
     ensures { λ r. ⌜ (r ≡ true → upTo cells (cellHolds (blockOf (now (list .entry)))) ≡ true) ⌝ }
 {
-    if at_most(list, 336, cells, n - 1) {
+    let past = reach(list, 336, (cells + 3) / 4, n - 1);
+    if past == 0 {
         return true;
     }
-    if list[8] == 1 {
+    if (past == 1) & (list[8] == 1) {
         let m = level_most(list);
-        return at_most(list, 336, cells, n) & at_most(list, 1360, 3 * cells, m);
+        return reach(list, 1360, (3 * cells + 3) / 4, 0) <= m;
     }
     false
 }
 
-// Yes only where the lists are whole and the update refuses nothing.
-pub fn ready(predictor: &[u16], block: &[u16], limit: usize) -> bool
-    ensures { λ r. ⌜ (r ≡ true → Ready (now (predictor .entry)) (now (block .entry)) limit) ⌝ }
-{
-    if block.len() < 4432 {
-        return false;
-    }
-    if predictor.len() < 385 {
-        return false;
-    }
-    let n = block[5];
-    let count = block[6] as usize;
-    let size = predictor[0] as usize;
-    if framed(block) & (count <= 128) {
-        if (1 <= n) & (1 <= block[1]) & (block[2] == block[3]) & (size <= 128) & (limit <= 128) {
-            let side = block[0] as usize;
-            let m = most_in(byte(block[2]));
-            let t = reused(block, count);
-            return (t + block[7] as usize == n as usize)
-                & at_most(block, 16, 3 * n as usize, m)
-                & at_most(predictor, 1, 3 * size, m)
-                & cells_ready(block, side * side, n);
-        }
-    }
-    false
-}
-
-// Yes only where a block's list is whole and the block holds together.
+// Yes only where the list is whole and the block holds together; it has entries, a format with chroma and one depth.
 pub fn block_ready(block: &[u16]) -> bool
     ensures { λ r. ⌜ (r ≡ true → BlockReady (now (block .entry))) ⌝ }
 {
@@ -143,8 +167,25 @@ pub fn block_ready(block: &[u16]) -> bool
             let m = most_in(byte(block[2]));
             let t = reused(block, count);
             return (t + block[7] as usize == n as usize)
-                & at_most(block, 16, 3 * n as usize, m)
+                & fit(block, 16, 48, 3 * n as usize, m)
                 & cells_ready(block, side * side, n);
+        }
+    }
+    false
+}
+
+// Yes only where the lists are whole and the update refuses nothing.
+pub fn ready(predictor: &[u16], block: &[u16], limit: usize) -> bool
+    ensures { λ r. ⌜ (r ≡ true → Ready (now (predictor .entry)) (now (block .entry)) limit) ⌝ }
+{
+    if predictor.len() < 385 {
+        return false;
+    }
+    if block_ready(block) {
+        let size = predictor[0] as usize;
+        if (size <= 128) & (limit <= 128) {
+            let m = most_in(byte(block[2]));
+            return fit(predictor, 1, 96, 3 * size, m);
         }
     }
     false

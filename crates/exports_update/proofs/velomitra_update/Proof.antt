@@ -11,8 +11,7 @@ use Rattle.exports_update.proofs.velomitra_update.Statement.{statement}
 use Rattle.exports_update.proofs.velomitra_update.Tie as tie
 use Rattle.exports_update.proofs.velomitra_update.Reads as reads
 use Rattle.exports_update.proofs.velomitra_update.Lts as lts
-use Rattle.exports_update.proofs.lay.Reads as lay-reads
-use Rattle.exports_update.proofs.renewed.Reads as renewed-reads
+use Rattle.exports_update.proofs.renew.Reads as renew-reads
 use Rattle.flat.proofs.block_of.Reads as block-of-reads
 use Rattle.flat.proofs.predictor_of.Reads as predictor-of-reads
 use Rattle.flatready.proofs.ready.Reads as ready-reads
@@ -22,20 +21,14 @@ use Rattle.predictor.proofs.update.Reads as update-reads
 ready-requires : tie.Need-ready-requires
 ready-requires c κs = search needs
 
-renewed-requires : tie.Need-renewed-requires
-renewed-requires c κs = c .before .before .ready .ensures (c .before .if1 .taken)
-
-cast-lay : tie.Need-cast-lay
-cast-lay c = omega (arith, c .before .before .before .renewed .ensures .0)
-
-lay-requires : tie.Need-lay-requires
-lay-requires c κs = omega (arith, c .before .before .before .before .before .before .ready .ensures (c .before .before .before .before .before .if1 .taken) .predictor)
+renew-requires : tie.Need-renew-requires
+renew-requires c κs = c .before .before .ready .ensures (c .before .if1 .taken)
 
 same-length : tie.Need-same-length
 same-length c = search needs
 
 returns : tie.Need-returns
-returns c = update-quick (c .before .before .before .before .before .before .before .before .before .before .before .before .before .args .predictor .now) (c .before .before .before .before .before .before .before .before .before .before .before .before .before .args .block .now) (c .before .before .before .before .before .before .before .before .before .before .before .before .before .args .limit) (c .before .before .before .before .before .before .before .before .before .ready .ensures (c .before .before .before .before .before .before .before .before .if1 .taken)) (c .before .before .before .before .before .before .renewed .result .size) (c .before .before .before .before .before .before .renewed .result .numbers) _ (c .before .before .before .before .before .before .renewed .ensures) (c .before .before .lay .ensures)
+returns c = update-quick (c .before .before .before .before .before .before .before .before .before .args .predictor .now) (c .before .before .before .before .before .before .before .before .before .args .block .now) (c .before .before .before .before .before .before .before .before .before .args .limit) (c .before .before .before .before .before .ready .ensures (c .before .before .before .before .if1 .taken)) _ (c .before .before .renew .ensures)
 
 predictor-of-requires : tie.Need-predictor-of-requires
 predictor-of-requires c κs = search needs
@@ -74,9 +67,7 @@ velomitra-update-spec =
     tie.close
     (tie.spec
     ready-requires
-    renewed-requires
-    cast-lay
-    lay-requires
+    renew-requires
     same-length
     returns
     predictor-of-requires
