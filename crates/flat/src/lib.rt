@@ -34,7 +34,7 @@ fn number(list: &[u16], i: usize) -> u16
 }
 
 // A number held to a byte.
-fn byte(x: u16) -> u8
+pub fn byte(x: u16) -> u8
     ensures { λ r. ⌜ r ≡ byte x ⌝ }
 {
     if x < 255 {
@@ -79,7 +79,7 @@ fn levels_in(list: &[u16], p: usize) -> Levels
 }
 
 // A block's palette.
-fn palette_of(list: &[u16]) -> [Color; 64]
+pub fn palette_of(list: &[u16]) -> [Color; 64]
     requires { ⌜ 4432 ≤ length (now list) ⌝ }
     ensures { λ r. ⌜ r ≡ each noColor 64 (λ i. colorAt (now (list .entry)) (16 + 3 * i)) ⌝ }
 {
@@ -94,7 +94,7 @@ fn palette_of(list: &[u16]) -> [Color; 64]
 }
 
 // A block's flags.
-fn flags_of(list: &[u16]) -> [bool; 128]
+pub fn flags_of(list: &[u16]) -> [bool; 128]
     requires { ⌜ 4432 ≤ length (now list) ⌝ }
     ensures { λ r. ⌜ r ≡ each false 128 (λ i. eqb (number (now (list .entry)) (208 + i)) 1) ⌝ }
 {
@@ -108,7 +108,7 @@ fn flags_of(list: &[u16]) -> [bool; 128]
 }
 
 // A block's indices.
-fn indices_of(list: &[u16]) -> [u8; 1024]
+pub fn indices_of(list: &[u16]) -> [u8; 1024]
     requires { ⌜ 4432 ≤ length (now list) ⌝ }
     ensures { λ r. ⌜ r ≡ each 0 1024 (λ i. byte (number (now (list .entry)) (336 + i))) ⌝ }
 {
@@ -122,7 +122,7 @@ fn indices_of(list: &[u16]) -> [u8; 1024]
 }
 
 // A block's levels, four cells at a turn.
-fn escapes_of(list: &[u16]) -> [Levels; 1024]
+pub fn escapes_of(list: &[u16]) -> [Levels; 1024]
     requires { ⌜ 4432 ≤ length (now list) ⌝ }
     ensures { λ r. ⌜ r ≡ each noLevels 1024 (λ i. levelsAt (now (list .entry)) (1360 + 3 * i)) ⌝ }
 {

@@ -4,7 +4,7 @@ use mathlib.Core.List.{List, [], _∷_}
 use Prim.Native.Nat.{ℕ, _+_, _*_, min}
 use lib.Dec.{eqb}
 use lib.Ieee.{Float, binary32, ofBits}
-use lib.ListN.{getD, replicate}
+use lib.ListN.{getD, replicate, take}
 use Rattle.base.specs.Cells.{laid}
 use Rattle.h265.specs.Strings.{bit}
 use Rattle.flat.specs.Flat.{number, each}
@@ -38,3 +38,7 @@ noRun = record { above = false; sent = 0; more = 0; start = 0 }
 -- the first runs of a list, at most 1024, and blank ones after them
 unfoldable pub runsOf : List ℕ → ℕ → List PaletteRun
 runsOf l count = laid (λ i. runAt l (4 * i)) (replicate 1024 noRun) 0 (min count 1024)
+
+-- the first runs alone
+abbrev pub firstOf : List ℕ → ℕ → List PaletteRun
+firstOf l count = take count (runsOf l count)

@@ -5,7 +5,7 @@
 ghost use mathlib.Core.Path.{_≡_};
 ghost use mathlib.Core.List.{[], _∷_};
 ghost use Prim.Native.Nat.{_+_, _*_, _≤_, min};
-ghost use lib.ListN.{take, set};
+ghost use lib.ListN.{length, take, set};
 ghost use lib.Seq.{sets};
 ghost use Rattle.base.specs.Laid.{Laid};
 ghost use Rattle.h265.specs.Strings.{bit};
@@ -144,6 +144,19 @@ fn run_at(list: &[u32], p: usize) -> PaletteRun
         sent,
         more,
         start,
+    }
+}
+
+// The run at a place that is there.
+pub fn run_in(list: &[u32], p: usize) -> PaletteRun
+    requires { ⌜ p + 4 ≤ length (now list) ⌝ }
+    ensures { λ r. ⌜ r ≡ runAt (now (list .entry)) p ⌝ }
+{
+    PaletteRun {
+        above: list[p] == 1,
+        sent: list[p + 1],
+        more: list[p + 2],
+        start: list[p + 3],
     }
 }
 

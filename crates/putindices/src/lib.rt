@@ -2,30 +2,31 @@
 ghost use mathlib.Core.Path.{_≡_};
 ghost use mathlib.Core.Bool.{false};
 ghost use mathlib.Core.List.{[]};
-ghost use Prim.Native.Nat.{_+_, _-_, _^_, _≤_, _<_};
+ghost use Prim.Native.Nat.{_+_, _-_, _*_, _^_, _≤_, _<_};
 ghost use lib.Dec.{eqb};
-ghost use lib.ListN.{length, take};
+ghost use lib.ListN.{length};
 ghost use Rattle.base.specs.Codes.{eachBins, Each};
 ghost use Rattle.base.specs.Laid.{Laid};
 ghost use Rattle.base.specs.Pick.{pick};
+ghost use Rattle.flatplan.specs.Flat.{firstOf};
 ghost use Rattle.h265.specs.Strings.{tb};
 ghost use Rattle.syntax.specs.Block.{alphabets};
 ghost use Rattle.syntax.specs.MapLaws.{Under};
 ghost use Rattle.syntax.specs.Runs.{sentOf, finalOf};
-use model::PaletteRun;
+use flatplan::run_in;
 use put::put_tb;
 use runstate::alphabet;
 use runstate::used_after;
 
 // How many of the first `count` runs are index runs.
-pub fn count_index(runs: [PaletteRun; 1024], count: usize) -> u32
-    requires { ⌜ count ≤ 1024 ⌝ }
-    ensures { λ r. ⌜ r ≡ length (sentOf (take count runs)) ⌝ }
+pub fn count_index(runs: &[u32], count: usize) -> u32
+    requires { ⌜ (count ≤ 1024) × (4 * count ≤ length (now runs)) ⌝ }
+    ensures { λ r. ⌜ r ≡ length (sentOf (firstOf (now (runs .entry)) count)) ⌝ }
 {
     let mut k: u32 = 0;
     let mut i: usize = 0;
     while i < count {
-        let r = runs[i];
+        let r = run_in(runs, 4 * i);
         k = used_after(k, r.above);
         i += 1;
     }
@@ -33,14 +34,14 @@ pub fn count_index(runs: [PaletteRun; 1024], count: usize) -> u32
 }
 
 // The kind of the last of the first `count` runs.
-pub fn final_kind(runs: [PaletteRun; 1024], count: usize) -> bool
-    requires { ⌜ count ≤ 1024 ⌝ }
-    ensures { λ r. ⌜ r ≡ finalOf false (take count runs) ⌝ }
+pub fn final_kind(runs: &[u32], count: usize) -> bool
+    requires { ⌜ (count ≤ 1024) × (4 * count ≤ length (now runs)) ⌝ }
+    ensures { λ r. ⌜ r ≡ finalOf false (firstOf (now (runs .entry)) count) ⌝ }
 {
     if count == 0 {
         return false;
     }
-    let r = runs[count - 1];
+    let r = run_in(runs, 4 * (count - 1));
     r.above
 }
 
@@ -62,19 +63,19 @@ pub fn put_indices(
     list: &mut [u8],
     at: usize,
     m: u32,
-    runs: [PaletteRun; 1024],
+    runs: &[u32],
     count: usize,
     total: u32,
 ) -> usize
-    requires { ⌜ (1 ≤ m) × (m ≤ 64) × (at < 2 ^ 62) × (count ≤ 1024) × (1 ≤ total) × Each Under (alphabets m (total - 1)) (sentOf (take count runs)) ⌝ }
-    ensures laid { λ r. ⌜ Laid (now (list .entry)) at (eachBins tb (alphabets m (total - 1)) (sentOf (take count runs))) r (now (list .exit)) ⌝ }
+    requires { ⌜ (1 ≤ m) × (m ≤ 64) × (at < 2 ^ 62) × (count ≤ 1024) × (4 * count ≤ length (now runs)) × (1 ≤ total) × Each Under (alphabets m (total - 1)) (sentOf (firstOf (now runs) count)) ⌝ }
+    ensures laid { λ r. ⌜ Laid (now (list .entry)) at (eachBins tb (alphabets m (total - 1)) (sentOf (firstOf (now (runs .entry)) count))) r (now (list .exit)) ⌝ }
     ensures near { λ r. ⌜ r ≤ at + 32768 ⌝ }
 {
     let mut to = at;
     let mut k: u32 = 0;
     let mut i: usize = 0;
     while i < count {
-        let r = runs[i];
+        let r = run_in(runs, 4 * i);
         to = put_index(list, to, m, k, r.above, r.sent);
         k = used_after(k, r.above);
         i += 1;

@@ -2,13 +2,13 @@
 ghost use mathlib.Core.Path.{_≡_};
 ghost use mathlib.Core.List.{[], _++_};
 ghost use Prim.Native.Nat.{_+_, _*_, _^_, _≤_, _<_};
-ghost use lib.ListN.{take};
+ghost use lib.ListN.{length};
 ghost use Rattle.base.specs.Laid.{Laid};
 ghost use Rattle.base.specs.Pick.{pick};
+ghost use Rattle.flatplan.specs.Flat.{firstOf};
 ghost use Rattle.h265.specs.Strings.{bit, binOf, marker};
 ghost use Rattle.syntax.specs.Block.{codedBins, mapBins};
 ghost use Rattle.syntax.specs.MapLaws.{CodedOk};
-use model::PaletteRun;
 use put::put_bin;
 use putcount::put_count;
 use putindices::count_index;
@@ -56,11 +56,11 @@ fn put_coded(
     m: u32,
     escape: bool,
     turned: bool,
-    runs: [PaletteRun; 1024],
+    runs: &[u32],
     count: usize,
 ) -> usize
-    requires { ⌜ (at < 2 ^ 61) × (1 ≤ size) × (1 ≤ n) × (n ≤ 1024) × (1 ≤ m) × (m ≤ 64) × (count ≤ 1024) × CodedOk size n m (record { turned = turned; runs = take count runs }) ⌝ }
-    ensures laid { λ r. ⌜ Laid (now (list .entry)) at (codedBins size n m escape (record { turned = turned; runs = take count runs })) r (now (list .exit)) ⌝ }
+    requires { ⌜ (at < 2 ^ 61) × (1 ≤ size) × (1 ≤ n) × (n ≤ 1024) × (1 ≤ m) × (m ≤ 64) × (count ≤ 1024) × (4 * count ≤ length (now runs)) × CodedOk size n m (record { turned = turned; runs = firstOf (now runs) count }) ⌝ }
+    ensures laid { λ r. ⌜ Laid (now (list .entry)) at (codedBins size n m escape (record { turned = turned; runs = firstOf (now (runs .entry)) count })) r (now (list .exit)) ⌝ }
     ensures near { λ r. ⌜ r ≤ at + 100000 ⌝ }
 {
     let total = count_index(runs, count);
@@ -80,11 +80,11 @@ pub fn put_map(
     m: u32,
     escape: bool,
     turned: bool,
-    runs: [PaletteRun; 1024],
+    runs: &[u32],
     count: usize,
 ) -> usize
-    requires { ⌜ (at < 2 ^ 61) × (1 ≤ size) × (1 ≤ n) × (n ≤ 1024) × (m ≤ 64) × (1 ≤ m → (count ≤ 1024) × CodedOk size n m (record { turned = turned; runs = take count runs })) ⌝ }
-    ensures laid { λ r. ⌜ Laid (now (list .entry)) at (mapBins size n m escape (record { turned = turned; runs = take count runs })) r (now (list .exit)) ⌝ }
+    requires { ⌜ (at < 2 ^ 61) × (1 ≤ size) × (1 ≤ n) × (n ≤ 1024) × (m ≤ 64) × (1 ≤ m → (count ≤ 1024) × (4 * count ≤ length (now runs)) × CodedOk size n m (record { turned = turned; runs = firstOf (now runs) count })) ⌝ }
+    ensures laid { λ r. ⌜ Laid (now (list .entry)) at (mapBins size n m escape (record { turned = turned; runs = firstOf (now (runs .entry)) count })) r (now (list .exit)) ⌝ }
     ensures near { λ r. ⌜ r ≤ at + 100000 ⌝ }
 {
     if m == 0 {

@@ -3,12 +3,28 @@ ghost use mathlib.Core.Path.{_≡_};
 ghost use Prim.Native.Nat.{_+_, _^_, _≤_, _<_};
 ghost use Rattle.base.specs.Laid.{Laid};
 ghost use Rattle.h265.specs.Strings.{unary, runClass, prefixOf, suffixBins, runBins};
+ghost use Rattle.putrun.specs.Word.{wordFrom};
 use bins::flog;
 use bins::pow2;
-use bins::run_class;
 use bins::suffixes;
 use put::put_bin;
 use put::put_tb;
+
+// The bytes of the prefix's zeros in base 256, that of bin 0 lowest.
+fn word_of(above: bool, sent: u32) -> u64
+    ensures { λ r. ⌜ r ≡ wordFrom above sent 0 ⌝ }
+{
+    if above {
+        return 86236074512;
+    }
+    if sent == 0 {
+        return 60365212678;
+    }
+    if sent < 3 {
+        return 60365212680;
+    }
+    60365212682
+}
 
 // The prefix in truncated unary: `ones` of at most `most`, each bin of its class.
 fn put_prefix(list: &mut [u8], at: usize, most: u32, ones: u32, above: bool, sent: u32) -> usize
@@ -18,12 +34,14 @@ fn put_prefix(list: &mut [u8], at: usize, most: u32, ones: u32, above: bool, sen
 {
     let mut to = at;
     let mut i: u32 = 0;
+    let mut w = word_of(above, sent);
     while i < ones {
-        to = put_bin(list, to, run_class(above, sent, i) * 2 + 1);
+        to = put_bin(list, to, (w % 256) as u8 + 1);
+        w = w / 256;
         i += 1;
     }
     if i < most {
-        return put_bin(list, to, run_class(above, sent, i) * 2);
+        return put_bin(list, to, (w % 256) as u8);
     }
     to
 }

@@ -2,14 +2,15 @@
 ghost use mathlib.Core.Path.{_≡_};
 ghost use mathlib.Core.Bool.{false};
 ghost use Prim.Native.Nat.{_+_, _*_, _^_, _≤_, _<_};
-ghost use lib.ListN.{take};
+ghost use lib.ListN.{length};
 ghost use Rattle.base.specs.Laid.{Laid};
 ghost use Rattle.base.specs.Pick.{pick};
+ghost use Rattle.flatplan.specs.Flat.{firstOf};
 ghost use Rattle.h265.specs.Strings.{bit};
 ghost use Rattle.syntax.specs.Runs as R;
 ghost use Rattle.syntax.specs.RunsLaws.{MoreOk};
 ghost use Rattle.putruns.specs.Going.{Going};
-use model::PaletteRun;
+use flatplan::run_in;
 use put::put_bin;
 use putrun::put_run;
 use runstate::bit_of;
@@ -98,12 +99,12 @@ pub fn put_runs(
     size: u32,
     n: u32,
     fin: bool,
-    runs: [PaletteRun; 1024],
+    runs: &[u32],
     count: usize,
     total: u32,
 ) -> usize
-    requires { ⌜ (at < 2 ^ 62) × (n ≤ 1024) × (count ≤ 1024) × Going size n fin 0 false total (take count runs) ⌝ }
-    ensures laid { λ r. ⌜ Laid (now (list .entry)) at (R.runsBins size n fin 0 false (take count runs)) r (now (list .exit)) ⌝ }
+    requires { ⌜ (at < 2 ^ 62) × (n ≤ 1024) × (count ≤ 1024) × (4 * count ≤ length (now runs)) × Going size n fin 0 false total (firstOf (now runs) count) ⌝ }
+    ensures laid { λ r. ⌜ Laid (now (list .entry)) at (R.runsBins size n fin 0 false (firstOf (now (runs .entry)) count)) r (now (list .exit)) ⌝ }
     ensures near { λ r. ⌜ r ≤ at + 66560 ⌝ }
 {
     let mut to = at;
@@ -112,7 +113,7 @@ pub fn put_runs(
     let mut prev = false;
     let mut left = total;
     while i < count {
-        let r = runs[i];
+        let r = run_in(runs, 4 * i);
         to = put_kind(list, to, size, n, scan, prev, left, r.above);
         left = left_after(left, r.above);
         to = put_more(list, to, n, scan, left, fin, r.above, r.sent, r.more);

@@ -1,33 +1,103 @@
 -- One turn of each test, and that a test of the first n cells is one of the array's.
 use mathlib.Core.Path.{_≡_, refl, ap, sym, _∙_}
-use mathlib.Core.Bool.{Bool, true, false}
+use mathlib.Core.Bool.{Bool, true, false, _&&_}
+use mathlib.Core.Logic.{⊎-elim}
 use mathlib.Core.List.{List, [], _∷_}
-use Prim.Native.Nat.{ℕ, zero, suc, _+_, _-_, _≤_, _<_}
+use Prim.Native.Nat.{ℕ, zero, suc, _+_, _-_, _*_, _/_, _≤_, _<_}
 use native.Mathlib.Numerals.{add-one}
+use native.Mathlib.Nat.{le-refl, one-mul, add-mul, mul-le-mul}
 use native.Mathlib.Omega.{arith}
 use lib.Dec.{ltb, eqb}
-use lib.ListN.{length, getD, take}
-use lib.Seq.{getD-take}
+use lib.ListN.{length, getD, take, set, replicate}
+use lib.Seq.{getD-take, getD-set-same, getD-set-other}
 use borrow.Author.Tests.{lt-ltb, le-ltb, eq-eqb, ne-eqb, eqb-false}
-use Rattle.base.specs.Pick.{pick, either}
+use Rattle.base.specs.Pick.{pick, either, lt-or-le}
 use Rattle.syntax.specs.Runs.{Run, mayCopy}
-use Rattle.syntax.specs.Replay.{reference}
-use Rattle.h265.specs.Scan.{aboveAt}
+use Rattle.syntax.specs.Replay.{reference, lessOne}
+use Rattle.h265.specs.Scan.{rowOf, aboveAt}
+use Rattle.h265.specs.ScanLaws.{place-row, above-closed}
 use Rattle.syntax.specs.ReplayLaws.{above-take, replays-le}
 use Rattle.syntax.specs.Test.{both, copied, drawn, sentRight, rules, replays, replays-rules}
 
-module _ (size : ℕ) (xs : List ℕ) (k j i : ℕ) (e : k ≡ suc j) where
-  pub copied-on : getD xs i 0 ≡ aboveAt size xs i → copied size xs k i ≡ copied size xs j (i + 1)
-  unfolding copied both
-  copied-on h = rw (e, eq-eqb _ _ h, add-one i)
+-- ---- the cells above, laid out once
 
-  pub copied-not : (getD xs i 0 ≡ aboveAt size xs i → ⊥) → copied size xs k i ≡ false
-  unfolding copied both
-  copied-not h = rw (e, ne-eqb _ _ h)
+-- the first k cells of `up` are those above
+abbrev pub Above : ℕ → List ℕ → List ℕ → ℕ → Type 0
+Above size xs up k = (i : ℕ) → i < k → getD up i 0 ≡ aboveAt size xs i
 
-pub copied-end : (size : ℕ) (xs : List ℕ) (k i : ℕ) → k ≡ 0 → copied size xs k i ≡ true
-unfolding copied
-copied-end size xs k i e = rw e
+zero-at : (n i : ℕ) → _≡_ {A = ℕ} (getD (replicate {A = ℕ} n 0) i 0) 0
+zero-at zero i = refl
+zero-at (suc n) zero = refl
+zero-at (suc n) (suc i) = zero-at n i
+
+pub above-first : (size : ℕ) (xs : List ℕ) (n : ℕ) → Above size xs (replicate n 0) (1 * size)
+unfolding aboveAt
+above-first size xs n i h = let l : i < size = omega arith in rw (lt-ltb i size l) (zero-at n i)
+
+pub above-set : (size : ℕ) (xs up : List ℕ) (k v : ℕ) → k < length up → Above size xs up k → v ≡ aboveAt size xs k → Above size xs (set up k v) (k + 1)
+above-set size xs up k v l a e i h =
+    ⊎-elim
+    (λ (m : i < k). getD-set-other up k i v 0 (λ z. omega arith) ∙ a i m)
+    (λ (m : k ≤ i). let z : i ≡ k = omega arith in rw z (getD-set-same up k v 0 l ∙ e))
+    (lt-or-le i k)
+
+pub above-row : (size : ℕ) (xs : List ℕ) (r j : ℕ) → 1 ≤ r → j < size → getD xs (r * size - (j + 1)) 0 ≡ aboveAt size xs (r * size + j)
+unfolding aboveAt rowOf
+above-row size xs r j h k =
+    let q : 1 * size ≤ r * size = mul-le-mul h (le-refl size) in
+    let y : (r * size + j) / size ≡ r = place-row size r j k in
+    let z : 2 * (r * size) - (r * size + j + 1) ≡ r * size - (j + 1) = omega arith in
+    rw (le-ltb (r * size + j) size (omega arith), above-closed size (r * size + j) (omega arith) (omega arith), y, z)
+
+pub row-low : (r size : ℕ) → 1 ≤ r → size ≤ r * size
+row-low r size h = let q : 1 * size ≤ r * size = mul-le-mul h (le-refl size) in omega arith
+
+pub row-next : (r size : ℕ) → r * size + size ≡ (r + 1) * size
+row-next r size = sym (add-mul r 1 size ∙ rw one-mul)
+
+-- the index sent, in the run's index and its reference
+unfoldable pub sentAs : ℕ → ℕ → ℕ → ℕ → ℕ → Bool
+sentAs m v f scan sent = pick (eqb scan 0) (both (eqb sent v) (ltb sent (m + 1))) (pick (eqb v f) false (both (eqb sent (lessOne v f)) (ltb sent m)))
+
+pub sent-as : (size m : ℕ) (xs up : List ℕ) (scan : ℕ) (prev : Bool) (sent f : ℕ) → Above size xs up (scan + 1) → (1 ≤ scan → f ≡ pick prev (getD up scan 0) (getD xs (scan - 1) 0)) → sentAs m (getD xs scan 0) f scan sent ≡ sentRight size m xs scan prev sent
+unfolding sentAs sentRight reference
+sent-as size m xs up zero prev sent f a h = refl
+sent-as size m xs up (suc s) prev sent f a h = let e : f ≡ pick prev (aboveAt size xs (suc s)) (getD xs (suc s - 1) 0) = rw (← a (suc s) (omega arith)) (h (omega arith)) in rw e
+
+-- ---- tests of cells
+
+both-and : (a b : Bool) → a && b ≡ both a b
+unfolding both
+both-and true b = refl
+both-and false b = refl
+
+both-assoc : (a b c : Bool) → both a (both b c) ≡ both (both a b) c
+unfolding both
+both-assoc true b c = refl
+both-assoc false b c = refl
+
+both-unit : (a : Bool) → both a true ≡ a
+unfolding both
+both-unit true = refl
+both-unit false = refl
+
+module _ (size : ℕ) (xs : List ℕ) where
+  copied-last : (k i : ℕ) → copied size xs (suc k) i ≡ both (copied size xs k i) (eqb (getD xs (i + k) 0) (aboveAt size xs (i + k)))
+  unfolding copied both
+  copied-last zero i = let z : i + 0 ≡ i = omega arith in rw z (both-unit _)
+  copied-last (suc k) i =
+      let z : i + suc k ≡ suc i + k = omega arith in
+      rw z (ap (both (eqb (getD xs i 0) (aboveAt size xs i))) (copied-last k (suc i)) ∙ both-assoc (eqb (getD xs i 0) (aboveAt size xs i)) (copied size xs k (suc i)) (eqb (getD xs (suc i + k) 0) (aboveAt size xs (suc i + k))))
+
+  pub copied-none : (from k : ℕ) → k ≡ 0 → true ≡ copied size xs k from
+  unfolding copied
+  copied-none from k e = rw e
+
+  pub copied-turn : (ok : Bool) (from i w : ℕ) → from ≤ i → w ≡ aboveAt size xs i → ok ≡ copied size xs (i - from) from → ok && eqb (getD xs i 0) w ≡ copied size xs (i + 1 - from) from
+  copied-turn ok from i w h a e =
+      let z : i + 1 - from ≡ suc (i - from) = omega arith in
+      let y : from + (i - from) ≡ i = omega arith in
+      both-and ok _ ∙ rw (z, copied-last (i - from) from, y, ← e, a)
 
 module _ (v : ℕ) (xs : List ℕ) (k j i : ℕ) (e : k ≡ suc j) where
   pub drawn-on : getD xs i 0 ≡ v → drawn v xs k i ≡ drawn v xs j (i + 1)

@@ -1,32 +1,58 @@
 // Refusal 8: the test of a run list against the block's indices.
 ghost use mathlib.Core.Path.{_≡_};
 ghost use mathlib.Core.Bool.{false};
-ghost use Prim.Native.Nat.{_+_, _-_, _≤_, _<_};
-ghost use lib.ListN.{take};
+ghost use Prim.Native.Nat.{ℕ, _+_, _-_, _*_, _≤_, _<_};
+ghost use lib.ListN.{length, take, getD};
+ghost use Rattle.base.specs.Pick.{pick};
+ghost use Rattle.flatplan.specs.Flat.{firstOf};
 ghost use Rattle.syntax.specs.Replay.{lessOne};
-ghost use Rattle.syntax.specs.Test.{copied, drawn, sentRight, rules, replays};
-use model::PaletteRun;
-use runstate::above_of;
+ghost use Rattle.syntax.specs.Test.{copied, drawn, rules, replays};
+ghost use Rattle.rules.specs.Turns.{Above, sentAs};
+use flatplan::run_in;
 use runstate::end_of;
-use runstate::reference_of;
 use runstate::wide;
 
-// Whether each cell of a run holds the index above it.
-fn copied_run(cells: &[u8; 1024], size: usize, from: usize, to: usize) -> bool
-    requires { ⌜ (1 ≤ size) × (from ≤ to) × (to ≤ 1024) ⌝ }
-    ensures { λ r. ⌜ r ≡ copied size (now (cells .entry)) (to - from) from ⌝ }
+// The cells above row r: the row before it, the other way round.
+fn fill_row(up: &mut [u8; 1024], cells: &[u8; 1024], size: usize, r: usize)
+    requires { ⌜ (1 ≤ r) × (r < size) × (size ≤ 32) × (length (now up) ≡ 1024) × Above size (now cells) (now up) (r * size) ⌝ }
+    ensures { λ _. ⌜ (length (now (up .exit)) ≡ 1024) × Above size (now (cells .entry)) (now (up .exit)) (r * size + size) ⌝ }
 {
+    let row = r * size;
+    let mut j: usize = 0;
+    while j < size {
+        up[row + j] = cells[row - (j + 1)];
+        j += 1;
+    }
+}
+
+// The index above each cell; 0 in row 0.
+fn rows_above(cells: &[u8; 1024], size: usize) -> [u8; 1024]
+    requires { ⌜ (1 ≤ size) × (size ≤ 32) ⌝ }
+    ensures { λ up. ⌜ Above size (now (cells .entry)) up (size * size) ⌝ }
+{
+    let mut up: [u8; 1024] = [0; 1024];
+    let mut r: usize = 1;
+    while r < size {
+        fill_row(&mut up, cells, size, r);
+        r += 1;
+    }
+    up
+}
+
+// Whether each cell of a run holds the index above it.
+fn copied_run(cells: &[u8; 1024], up: &[u8; 1024], from: usize, to: usize) -> bool
+    requires { ⌜ (from ≤ to) × (to ≤ 1024) ⌝ }
+    ensures { λ r. ⌜ ((size : ℕ) → Above size (now (cells .entry)) (now (up .entry)) to → r ≡ copied size (now (cells .entry)) (to - from) from) ⌝ }
+{
+    let mut ok = true;
     let mut i = from;
     while i < to {
-        let v = above_of(cells, size, i);
-        let w = cells[i];
-        if w == v {
-            i += 1;
-        } else {
-            return false;
-        }
+        let v = cells[i];
+        let w = up[i];
+        ok = ok & (v == w);
+        i += 1;
     }
-    true
+    ok
 }
 
 // Whether each cell of a run holds v.
@@ -56,19 +82,31 @@ fn less_one(v: u8, f: u8) -> u8
     v
 }
 
-// Whether the index sent is the run's.
-fn sent_right(cells: &[u8; 1024], size: usize, m: u32, scan: usize, prev: bool, sent: u32) -> bool
-    requires { ⌜ (1 ≤ size) × (scan < 1024) × (m ≤ 1024) ⌝ }
-    ensures { λ r. ⌜ r ≡ sentRight size m (now (cells .entry)) scan prev sent ⌝ }
+// The reference of an index run past the start: after a copy-above run the cell above, else the cell before.
+fn reference_in(cells: &[u8; 1024], up: &[u8; 1024], prev: bool, scan: usize) -> u8
+    requires { ⌜ scan < 1024 ⌝ }
+    ensures { λ r. ⌜ (1 ≤ scan → r ≡ pick prev (getD (now (up .entry)) scan 0) (getD (now (cells .entry)) (scan - 1) 0)) ⌝ }
 {
-    let v = cells[scan];
+    if prev {
+        return up[scan];
+    }
+    if scan == 0 {
+        return 0;
+    }
+    cells[scan - 1]
+}
+
+// Whether the index sent is that of a run of v, where f is its reference.
+fn sent_right(v: u8, f: u8, m: u32, scan: usize, sent: u32) -> bool
+    requires { ⌜ m ≤ 1024 ⌝ }
+    ensures { λ r. ⌜ r ≡ sentAs m v f scan sent ⌝ }
+{
     if scan == 0 {
         if sent == wide(v) {
             return sent < m + 1;
         }
         return false;
     }
-    let f = reference_of(cells, size, prev, scan);
     if v == f {
         return false;
     }
@@ -82,6 +120,7 @@ fn sent_right(cells: &[u8; 1024], size: usize, m: u32, scan: usize, prev: bool, 
 // Whether a run keeps the rules at place `scan`.
 fn keeps_rules(
     cells: &[u8; 1024],
+    up: &[u8; 1024],
     size: usize,
     m: u32,
     scan: usize,
@@ -91,7 +130,7 @@ fn keeps_rules(
     more: u32,
     start: u32,
 ) -> bool
-    requires { ⌜ (1 ≤ size) × (scan + more + 1 ≤ 1024) × (m ≤ 1024) ⌝ }
+    requires { ⌜ (scan + more + 1 ≤ 1024) × (m ≤ 1024) × Above size (now cells) (now up) (scan + more + 1) ⌝ }
     ensures { λ r. ⌜ r ≡ rules size m (now (cells .entry)) scan prev (record { above = above; sent = sent; more = more; start = start }) ⌝ }
 {
     let to = end_of(scan, more);
@@ -105,12 +144,13 @@ fn keeps_rules(
                 return false;
             }
             if sent == 0 {
-                return copied_run(cells, size, scan, to);
+                return copied_run(cells, up, scan, to);
             }
             return false;
         }
-        if sent_right(cells, size, m, scan, prev, sent) {
-            let v = cells[scan];
+        let v = cells[scan];
+        let f = reference_in(cells, up, prev, scan);
+        if sent_right(v, f, m, scan, sent) {
             return drawn_run(cells, v, scan, to);
         }
         return false;
@@ -124,22 +164,34 @@ pub fn replays_to(
     size: usize,
     n: usize,
     m: u32,
-    runs: [PaletteRun; 1024],
+    runs: &[u32],
     count: usize,
 ) -> bool
-    requires { ⌜ (1 ≤ size) × (n ≤ 1024) × (count ≤ 1024) × (m ≤ 1024) ⌝ }
-    ensures { λ r. ⌜ r ≡ replays size n m (take n (now (cells .entry))) 0 false (take count runs) ⌝ }
+    requires { ⌜ (1 ≤ size) × (size ≤ 32) × (n ≡ size * size) × (n ≤ 1024) × (count ≤ 1024) × (m ≤ 1024) × (4 * count ≤ length (now runs)) ⌝ }
+    ensures { λ r. ⌜ r ≡ replays size n m (take n (now (cells .entry))) 0 false (firstOf (now (runs .entry)) count) ⌝ }
 {
+    let up = rows_above(cells, size);
     let mut i: usize = 0;
     let mut scan: usize = 0;
     let mut prev = false;
     while i < count {
-        let r = runs[i];
+        let r = run_in(runs, 4 * i);
         let more = r.more as usize;
         if n - scan <= more {
             return false;
         }
-        if keeps_rules(cells, size, m, scan, prev, r.above, r.sent, r.more, r.start) {
+        if keeps_rules(
+            cells,
+            &up,
+            size,
+            m,
+            scan,
+            prev,
+            r.above,
+            r.sent,
+            r.more,
+            r.start,
+        ) {
             scan = end_of(scan, r.more);
             prev = r.above;
             i += 1;

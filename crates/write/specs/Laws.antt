@@ -147,3 +147,14 @@ module _ (cu : PaletteCu) (runs : List Run) (count : ℕ) (l : List ℕ) where
       let k : n ≡ length (binsOf cu (take count runs)) = omega (arith, e .next) in
       let z : refusal ((blockSizeIn cu, 2) ∷ (holds 64 cu, 7) ∷ (runsHold cu runs count, 8) ∷ (leb (length (binsOf cu (take count runs))) (length l), 9) ∷ []) ≡ 0 = refused-late early late numbered a ∙ rw (le-leb (length (binsOf cu (take count runs))) (length l) d) in
       (rw (z, k), rw z (e .after))
+
+-- ---- runs past the count are not looked at
+
+module _ (cu : PaletteCu) (given runs : List Run) (count : ℕ) (e : take count given ≡ take count runs) where
+  pub write-same : (room : ℕ) → writeOf cu given count room ≡ writeOf cu runs count room
+  unfolding writeOf writeRefusal runsHold
+  write-same room = rw e
+
+  pub after-same : (l : List ℕ) → listAfter cu given count l ≡ listAfter cu runs count l
+  unfolding listAfter writeRefusal runsHold
+  after-same l = rw e

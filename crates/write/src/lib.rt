@@ -3,13 +3,15 @@ ghost use mathlib.Core.Path.{_≡_};
 ghost use mathlib.Core.Bool.{true};
 ghost use mathlib.Core.List.{[], _∷_};
 ghost use Prim.Native.Nat.{_+_, _-_, _*_, _≤_};
-ghost use lib.ListN.{take, length};
+ghost use lib.ListN.{length};
 ghost use Rattle.base.specs.Laid.{Laid};
 ghost use Rattle.base.specs.Tests.{refusal};
+ghost use Rattle.flatplan.specs.Flat.{runsOf, firstOf};
 ghost use Rattle.h265.specs.Strings.{bit};
 ghost use Rattle.model.specs.Whole.{blockSizeIn, holds};
 ghost use Rattle.write.specs.Write.{binsOf, runsHold, writeOf, listAfter};
 ghost use Rattle.write.specs.Laws.{headOf};
+use flatplan::lay_runs;
 use model::PaletteCu;
 use model::PaletteRun;
 use putescapes::put_escapes;
@@ -26,7 +28,7 @@ pub struct Written {
 }
 
 // The cells of a block.
-fn area(size: usize) -> usize
+pub fn area(size: usize) -> usize
     requires { ⌜ size ≤ 32 ⌝ }
     ensures { λ r. ⌜ (r ≡ size * size) × (r ≤ 1024) ⌝ }
 {
@@ -34,7 +36,7 @@ fn area(size: usize) -> usize
 }
 
 // The greatest index; 0 also for an empty palette.
-fn greatest(size: usize, escape: bool) -> u32
+pub fn greatest(size: usize, escape: bool) -> u32
     requires { ⌜ size ≤ 64 ⌝ }
     ensures { λ r. ⌜ (r ≡ size + bit escape - 1) × (r ≤ 64) ⌝ }
 {
@@ -48,9 +50,9 @@ fn greatest(size: usize, escape: bool) -> u32
 }
 
 // The test for refusal 8: with M = 0 the list is ignored.
-fn runs_hold(cu: PaletteCu, runs: [PaletteRun; 1024], count: usize) -> bool
-    requires { ⌜ holds 64 cu ≡ true ⌝ }
-    ensures { λ r. ⌜ r ≡ runsHold cu runs count ⌝ }
+fn runs_hold(cu: PaletteCu, runs: &[u32], count: usize) -> bool
+    requires { ⌜ (holds 64 cu ≡ true) × (4096 ≤ length (now runs)) ⌝ }
+    ensures { λ r. ⌜ r ≡ runsHold cu (runsOf (now (runs .entry)) count) count ⌝ }
 {
     let m = greatest(cu.palette_size, cu.escape_present);
     if m == 0 {
@@ -89,9 +91,9 @@ fn put_head(list: &mut [u8], cu: PaletteCu) -> usize
 }
 
 // The block's bins: palette, index map, escape levels.
-fn put_block(list: &mut [u8], cu: PaletteCu, runs: [PaletteRun; 1024], count: usize) -> usize
-    requires { ⌜ (holds 64 cu ≡ true) × (runsHold cu runs count ≡ true) ⌝ }
-    ensures { λ r. ⌜ Laid (now (list .entry)) 0 (binsOf cu (take count runs)) r (now (list .exit)) ⌝ }
+fn put_block(list: &mut [u8], cu: PaletteCu, runs: &[u32], count: usize) -> usize
+    requires { ⌜ (holds 64 cu ≡ true) × (runsHold cu (runsOf (now runs) count) count ≡ true) × (4096 ≤ length (now runs)) ⌝ }
+    ensures { λ r. ⌜ Laid (now (list .entry)) 0 (binsOf cu (firstOf (now (runs .entry)) count)) r (now (list .exit)) ⌝ }
 {
     let n = area(cu.size);
     let m = greatest(cu.palette_size, cu.escape_present);
@@ -121,8 +123,9 @@ fn put_block(list: &mut [u8], cu: PaletteCu, runs: [PaletteRun; 1024], count: us
 }
 
 // The number of the first refusal that needs no bins; 0 where there is none.
-fn refusal_of(cu: PaletteCu, runs: [PaletteRun; 1024], count: usize) -> u8
-    ensures { λ r. ⌜ r ≡ refusal ((blockSizeIn cu, 2) ∷ (holds 64 cu, 7) ∷ (runsHold cu runs count, 8) ∷ []) ⌝ }
+fn refusal_of(cu: PaletteCu, runs: &[u32], count: usize) -> u8
+    requires { ⌜ 4096 ≤ length (now runs) ⌝ }
+    ensures { λ r. ⌜ r ≡ refusal ((blockSizeIn cu, 2) ∷ (holds 64 cu, 7) ∷ (runsHold cu (runsOf (now (runs .entry)) count) count, 8) ∷ []) ⌝ }
 {
     if block_size_in(cu) {
         if holds_together(64, cu) {
@@ -137,7 +140,7 @@ fn refusal_of(cu: PaletteCu, runs: [PaletteRun; 1024], count: usize) -> u8
 }
 
 // A refusal.
-fn refused(number: u8) -> Written
+pub fn refused(number: u8) -> Written
     ensures { λ r. ⌜ r ≡ record { refusal = number; bins = 0 } ⌝ }
 {
     Written {
@@ -146,14 +149,10 @@ fn refused(number: u8) -> Written
     }
 }
 
-// The bins of a block and its first `count` runs, laid from the list's start on; with document 01's refusals 2, 7, 8 and 9.
-pub fn write_palette_cu(
-    list: &mut [u8],
-    cu: PaletteCu,
-    runs: [PaletteRun; 1024],
-    count: usize,
-) -> Written
-    ensures { λ r. ⌜ (r ≡ writeOf cu runs count (length (now (list .entry)))) × (now (list .exit) ≡ listAfter cu runs count (now (list .entry))) ⌝ }
+// The bins of a block and the first `count` runs of a list of numbers.
+fn write_runs(list: &mut [u8], cu: PaletteCu, runs: &[u32], count: usize) -> Written
+    requires { ⌜ 4096 ≤ length (now runs) ⌝ }
+    ensures { λ r. ⌜ (r ≡ writeOf cu (runsOf (now (runs .entry)) count) count (length (now (list .entry)))) × (now (list .exit) ≡ listAfter cu (runsOf (now (runs .entry)) count) count (now (list .entry))) ⌝ }
 {
     let k = refusal_of(cu, runs, count);
     if k == 0 {
@@ -166,4 +165,18 @@ pub fn write_palette_cu(
         return Written { refusal: 0, bins };
     }
     refused(k)
+}
+
+// The bins of a block and its first `count` runs, laid from the list's start on; with document 01's refusals 2, 7, 8 and 9.
+pub fn write_palette_cu(
+    list: &mut [u8],
+    cu: PaletteCu,
+    runs: [PaletteRun; 1024],
+    count: usize,
+) -> Written
+    ensures { λ r. ⌜ (r ≡ writeOf cu runs count (length (now (list .entry)))) × (now (list .exit) ≡ listAfter cu runs count (now (list .entry))) ⌝ }
+{
+    let mut numbers = [0u32; 4096];
+    lay_runs(runs, count, &mut numbers[..4096]);
+    write_runs(list, cu, &numbers, count)
 }

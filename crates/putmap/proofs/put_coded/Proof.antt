@@ -1,7 +1,7 @@
 -- `putmap::put_coded`
 use mathlib.Core.Path.{sym}
 use native.Mathlib.Omega.{arith}
-use lib.ListN.{take}
+use Rattle.flatplan.specs.Flat.{firstOf}
 use Rattle.syntax.specs.MapLaws.{first-sent}
 use Rattle.putmap.specs.Coded.{coded-laid}
 use borrow.Author.Needs.{needs}
@@ -9,12 +9,6 @@ use Rattle.putmap.proofs.put_coded.Statement.{statement}
 use Rattle.putmap.proofs.put_coded.Tie as tie
 use Rattle.putmap.proofs.put_coded.Reads as reads
 use Rattle.putmap.proofs.put_coded.Lts as lts
-use Rattle.putcount.proofs.put_count.Reads as put-count-reads
-use Rattle.putindices.proofs.count_index.Reads as count-index-reads
-use Rattle.putindices.proofs.final_kind.Reads as final-kind-reads
-use Rattle.putindices.proofs.put_indices.Reads as put-indices-reads
-use Rattle.putmap.proofs.put_flags.Reads as put-flags-reads
-use Rattle.putruns.proofs.put_runs.Reads as put-runs-reads
 
 count-index-requires : tie.Need-count-index-requires
 count-index-requires c κs = search needs
@@ -23,10 +17,10 @@ final-kind-requires : tie.Need-final-kind-requires
 final-kind-requires c κs = search needs
 
 sub-put-count : tie.Need-sub-put-count
-sub-put-count c = omega (arith, c .before .before .count-index .ensures, first-sent (c .before .before .before .before .args .size) (c .before .before .before .before .args .n) (take (c .before .before .before .before .args .count) (c .before .before .before .before .args .runs)) (omega arith) (omega arith) (c .before .before .before .before .pre .7 .keeps) .0)
+sub-put-count c = omega (arith, c .before .before .count-index .ensures, first-sent (c .before .before .before .before .before .args .size) (c .before .before .before .before .before .args .n) (firstOf (c .before .before .before .before .before .args .runs .now) (c .before .before .before .before .before .args .count)) (omega arith) (omega arith) (c .before .before .before .before .before .pre .8 .keeps) .0)
 
 put-count-requires : tie.Need-put-count-requires
-put-count-requires c κs = (omega arith, omega (arith, c .before .before .count-index .ensures, first-sent (c .before .before .before .before .args .size) (c .before .before .before .before .args .n) (take (c .before .before .before .before .args .count) (c .before .before .before .before .args .runs)) (omega arith) (omega arith) (c .before .before .before .before .pre .7 .keeps) .1), omega arith)
+put-count-requires c κs = (omega arith, omega (arith, c .before .before .count-index .ensures, first-sent (c .before .before .before .before .before .args .size) (c .before .before .before .before .before .args .n) (firstOf (c .before .before .before .before .before .args .runs .now) (c .before .before .before .before .before .args .count)) (omega arith) (omega arith) (c .before .before .before .before .before .pre .8 .keeps) .1), omega arith)
 
 put-indices-requires : tie.Need-put-indices-requires
 put-indices-requires c κs = (
@@ -34,8 +28,9 @@ put-indices-requires c κs = (
   omega arith,
   omega (arith, c .before .before .before .put-count .ensures .1),
   omega arith,
-  omega (arith, c .before .before .before .before .before .before .count-index .ensures, first-sent (c .before .before .before .before .before .before .before .before .args .size) (c .before .before .before .before .before .before .before .before .args .n) (take (c .before .before .before .before .before .before .before .before .args .count) (c .before .before .before .before .before .before .before .before .args .runs)) (omega arith) (omega arith) (c .before .before .before .before .before .before .before .before .pre .7 .keeps) .0),
-  rw (c .before .before .before .before .before .before .count-index .ensures) (c .before .before .before .before .before .before .before .before .pre .7 .each),
+  omega arith,
+  omega (arith, c .before .before .before .before .before .before .count-index .ensures, first-sent (c .before .before .before .before .before .before .before .before .before .args .size) (c .before .before .before .before .before .before .before .before .before .args .n) (firstOf (c .before .before .before .before .before .before .before .before .before .args .runs .now) (c .before .before .before .before .before .before .before .before .before .args .count)) (omega arith) (omega arith) (c .before .before .before .before .before .before .before .before .before .pre .8 .keeps) .0),
+  rw (c .before .before .before .before .before .before .count-index .ensures) (c .before .before .before .before .before .before .before .before .before .pre .8 .each),
 )
 
 put-flags-requires : tie.Need-put-flags-requires
@@ -46,7 +41,8 @@ put-runs-requires c κs = (
   omega (arith, c .before .before .before .before .before .before .before .before .before .before .before .put-count .ensures .1, c .before .before .before .before .before .before .before .put-indices .ensures .1, c .before .before .before .put-flags .ensures .1),
   omega arith,
   omega arith,
-  record { keeps = c .before .before .before .before .before .before .before .before .before .before .before .before .before .before .before .before .pre .7 .keeps; final = sym (c .before .before .before .before .before .before .before .before .before .before .before .before .before .final-kind .ensures); sum = c .before .before .before .before .before .before .before .before .before .before .before .before .before .before .count-index .ensures },
+  omega arith,
+  record { keeps = c .before .before .before .before .before .before .before .before .before .before .before .before .before .before .before .before .before .pre .8 .keeps; final = sym (c .before .before .before .before .before .before .before .before .before .before .before .before .before .final-kind .ensures); sum = c .before .before .before .before .before .before .before .before .before .before .before .before .before .before .count-index .ensures },
 )
 
 same-length : tie.Need-same-length
@@ -54,8 +50,8 @@ same-length c = search needs
 
 returns : tie.Need-returns
 returns c =
-    let g = c .before .before .before .before .before .before .before .before .before .before .before .before .before .before .before .before .before .before .before .args in (
-      coded-laid (g .size) (g .n) (g .m) (g .escape) (g .turned) (take (g .count) (g .runs)) (c .before .before .before .before .before .before .before .before .before .before .before .before .before .before .before .before .before .count-index .result) (c .before .before .before .before .before .before .before .before .before .before .before .before .before .before .before .before .final-kind .result) (c .before .before .before .before .before .before .before .before .before .before .before .before .before .before .before .before .before .count-index .ensures) (c .before .before .before .before .before .before .before .before .before .before .before .before .before .before .before .before .final-kind .ensures) (c .before .before .before .before .before .before .before .before .before .before .before .before .before .before .put-count .ensures .0) (c .before .before .before .before .before .before .before .before .before .before .put-indices .ensures .0) (c .before .before .before .before .before .before .put-flags .ensures .0) (c .before .before .put-runs .ensures .0),
+    let g = c .before .before .before .before .before .before .before .before .before .before .before .before .before .before .before .before .before .before .before .before .args in (
+      coded-laid (g .size) (g .n) (g .m) (g .escape) (g .turned) (firstOf (g .runs .now) (g .count)) (c .before .before .before .before .before .before .before .before .before .before .before .before .before .before .before .before .before .count-index .result) (c .before .before .before .before .before .before .before .before .before .before .before .before .before .before .before .before .final-kind .result) (c .before .before .before .before .before .before .before .before .before .before .before .before .before .before .before .before .before .count-index .ensures) (c .before .before .before .before .before .before .before .before .before .before .before .before .before .before .before .before .final-kind .ensures) (c .before .before .before .before .before .before .before .before .before .before .before .before .before .before .put-count .ensures .0) (c .before .before .before .before .before .before .before .before .before .before .put-indices .ensures .0) (c .before .before .before .before .before .before .put-flags .ensures .0) (c .before .before .put-runs .ensures .0),
       omega (arith, c .before .before .before .before .before .before .before .before .before .before .before .before .before .before .put-count .ensures .1, c .before .before .before .before .before .before .before .before .before .before .put-indices .ensures .1, c .before .before .before .before .before .before .put-flags .ensures .1, c .before .before .put-runs .ensures .1),
     )
 

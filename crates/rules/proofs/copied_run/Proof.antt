@@ -1,31 +1,26 @@
-use mathlib.Core.Path.{_≡_, refl, sym, ap, _∙_}
-use mathlib.Core.Bool.{Bool, true, false}
-use mathlib.Core.List.{List, [], _∷_, _++_}
-use Prim.Native.Nat.{ℕ, suc, _+_, _-_, _*_, _/_, _≤_, _<_}
+-- `rules::copied_run`. The loop's invariant: the cells passed were tested.
+use mathlib.Core.Path.{_≡_, sym, _∙_}
+use Prim.Native.Nat.{ℕ, _+_, _-_, _≤_}
 use native.Mathlib.Omega.{arith}
-use lib.ListN.{length, take, drop, getD, set}
-use borrow.Author.Tests.{lt-ltb, le-ltb, eq-eqb, ne-eqb, lt-leb, le-leb}
-use Rattle.base.specs.Pick.{pick}
 use Rattle.syntax.specs.Test.{copied}
-use Rattle.rules.specs.Turns.{copied-on, copied-not, copied-end}
+use Rattle.rules.specs.Turns.{Above, copied-none, copied-turn}
 use borrow.Author.Needs.{needs}
 use Rattle.rules.proofs.copied_run.Statement.{statement}
 use Rattle.rules.proofs.copied_run.Tie as tie
 use Rattle.rules.proofs.copied_run.Reads as reads
 use Rattle.rules.proofs.copied_run.Lts as lts
-use Rattle.runstate.proofs.above_of.Reads as above-of-reads
 
 abbrev Inv-loop : tie.InvT-loop
-Inv-loop cells size from to i₀ i = (from ≤ i) × (i ≤ to) × (copied size cells (to - i) i ≡ copied size cells (to - from) from)
+Inv-loop cells up from to ok₀ i₀ ok i = (from ≤ i) × (i ≤ to) × ((size : ℕ) → Above size cells up to → ok ≡ copied size cells (i - from) from)
 
 abbrev μ-loop : tie.MeasureT-loop
-μ-loop cells size from to i₀ i = to - i
+μ-loop cells up from to ok₀ i₀ ok i = to - i
 
 loop-holds : tie.Need-loop-holds Inv-loop μ-loop
-loop-holds c = (omega arith, omega arith, refl)
+loop-holds c = (omega arith, omega arith, λ size a. copied-none size (c .args .cells .now) (c .args .from) (c .args .from - c .args .from) (omega arith))
 
-above-of-requires : tie.Need-above-of-requires Inv-loop μ-loop
-above-of-requires c κs = omega arith
+element-copy-out-v : tie.Need-element-copy-out-v Inv-loop μ-loop
+element-copy-out-v c = omega arith
 
 element-copy-out-w : tie.Need-element-copy-out-w Inv-loop μ-loop
 element-copy-out-w c = omega arith
@@ -37,22 +32,12 @@ loop-less : tie.Need-loop-less Inv-loop μ-loop
 loop-less c = omega arith
 
 loop-again : tie.Need-loop-again Inv-loop μ-loop
-loop-again c =
-    let b = c .before .before .before .before .loop in
-    let g = c .before .before .before .before .before .args in
-    (omega arith, omega arith, sym (copied-on (g .size) (g .cells .now) (g .to - b .i) (g .to - (b .i + 1)) (b .i) (omega arith) (c .if1 .taken ∙ c .before .before .above-of .ensures)) ∙ b .inv .2)
+loop-again c = (omega arith, omega arith, λ size a. copied-turn size (c .before .before .before .before .args .cells .now) (c .before .before .before .loop .ok) (c .before .before .before .before .args .from) (c .before .before .before .loop .i) _ (c .before .before .before .loop .inv .0) (a (c .before .before .before .loop .i) (omega arith)) (c .before .before .before .loop .inv .2 size a))
 
 returns : tie.Need-returns Inv-loop μ-loop
 returns c =
-    let b = c .before .before .before .before .loop in
-    let g = c .before .before .before .before .before .args in
-    sym (copied-not (g .size) (g .cells .now) (g .to - b .i) (g .to - (b .i + 1)) (b .i) (omega arith) (λ z. c .if1 .left (z ∙ sym (c .before .before .above-of .ensures)))) ∙ b .inv .2
-
-returns-2 : tie.Need-returns-2 Inv-loop μ-loop
-returns-2 c =
-    let b = c .before .loop in
-    let g = c .before .before .args in
-    sym (copied-end (g .size) (g .cells .now) (g .to - b .i) (b .i) (omega arith)) ∙ b .inv .2
+    let e : c .before .loop .i ≡ c .before .before .args .to = omega arith in
+    λ size a. rw e at (c .before .loop .inv .2 size a)
 
 pub copied-run-spec : {M : Type 1} → statement M
 copied-run-spec =
@@ -61,10 +46,9 @@ copied-run-spec =
     Inv-loop
     μ-loop
     loop-holds
-    above-of-requires
+    element-copy-out-v
     element-copy-out-w
     add-i
     loop-less
     loop-again
-    returns
-    returns-2)
+    returns)

@@ -1,23 +1,19 @@
+-- `rules::sent_right`
 use mathlib.Core.Path.{_≡_, refl, sym, ap, _∙_}
 use mathlib.Core.Bool.{Bool, true, false}
-use mathlib.Core.List.{List, [], _∷_, _++_}
-use Prim.Native.Nat.{ℕ, suc, _+_, _-_, _*_, _/_, _≤_, _<_}
+use Prim.Native.Nat.{ℕ, suc, _+_, _-_, _*_, _≤_, _<_}
 use native.Mathlib.Omega.{arith}
-use lib.ListN.{length, take, drop, getD, set}
 use borrow.Author.Tests.{lt-ltb, le-ltb, eq-eqb, ne-eqb, lt-leb, le-leb}
 use Rattle.base.specs.Pick.{pick}
-use Rattle.syntax.specs.Test.{sentRight, both}
+use Rattle.syntax.specs.Test.{both}
+use Rattle.rules.specs.Turns.{sentAs}
 use borrow.Author.Needs.{needs}
 use Rattle.rules.proofs.sent_right.Statement.{statement}
 use Rattle.rules.proofs.sent_right.Tie as tie
 use Rattle.rules.proofs.sent_right.Reads as reads
 use Rattle.rules.proofs.sent_right.Lts as lts
 use Rattle.rules.proofs.less_one.Reads as less-one-reads
-use Rattle.runstate.proofs.reference_of.Reads as reference-of-reads
 use Rattle.runstate.proofs.wide.Reads as wide-reads
-
-element-copy-out-v : tie.Need-element-copy-out-v
-element-copy-out-v c = search needs
 
 wide-requires : tie.Need-wide-requires
 wide-requires c κs = search needs
@@ -26,19 +22,16 @@ add-result : tie.Need-add-result
 add-result c = search needs
 
 returns : tie.Need-returns
-unfolding sentRight both
+unfolding sentAs both
 returns c = rw (eq-eqb _ _ (c .before .before .if1 .taken), eq-eqb _ _ (c .if2 .taken ∙ c .before .wide .ensures))
 
 returns-2 : tie.Need-returns-2
-unfolding sentRight both
+unfolding sentAs both
 returns-2 c = rw (eq-eqb _ _ (c .before .before .if1 .taken), ne-eqb _ _ (λ z. c .if2 .left (z ∙ sym (c .before .wide .ensures))))
 
-reference-of-requires : tie.Need-reference-of-requires
-reference-of-requires c κs = search needs
-
 returns-3 : tie.Need-returns-3
-unfolding sentRight both
-returns-3 c = rw (ne-eqb _ _ (c .before .before .if1 .left), ← c .before .reference-of .ensures, eq-eqb _ _ (c .if3 .taken))
+unfolding sentAs both
+returns-3 c = rw (ne-eqb _ _ (c .before .if1 .left), eq-eqb _ _ (c .if3 .taken))
 
 less-one-requires : tie.Need-less-one-requires
 less-one-requires c κs = search needs
@@ -47,23 +40,21 @@ wide-requires-2 : tie.Need-wide-requires-2
 wide-requires-2 c κs = search needs
 
 returns-4 : tie.Need-returns-4
-unfolding sentRight both
-returns-4 c = rw (ne-eqb _ _ (c .before .before .before .before .before .if1 .left), ← c .before .before .before .before .reference-of .ensures, ne-eqb _ _ (c .before .before .before .if3 .left), eq-eqb _ _ (c .if4 .taken ∙ c .before .wide2 .ensures ∙ c .before .before .less-one .ensures))
+unfolding sentAs both
+returns-4 c = rw (ne-eqb _ _ (c .before .before .before .before .if1 .left), ne-eqb _ _ (c .before .before .before .if3 .left), eq-eqb _ _ (c .if4 .taken ∙ c .before .wide2 .ensures ∙ c .before .before .less-one .ensures))
 
 returns-5 : tie.Need-returns-5
-unfolding sentRight both
-returns-5 c = rw (ne-eqb _ _ (c .before .before .before .before .before .if1 .left), ← c .before .before .before .before .reference-of .ensures, ne-eqb _ _ (c .before .before .before .if3 .left), ne-eqb _ _ (λ z. c .if4 .left (z ∙ sym (c .before .wide2 .ensures ∙ c .before .before .less-one .ensures))))
+unfolding sentAs both
+returns-5 c = rw (ne-eqb _ _ (c .before .before .before .before .if1 .left), ne-eqb _ _ (c .before .before .before .if3 .left), ne-eqb _ _ (λ z. c .if4 .left (z ∙ sym (c .before .wide2 .ensures ∙ c .before .before .less-one .ensures))))
 
 pub sent-right-spec : {M : Type 1} → statement M
 sent-right-spec =
     tie.close
     (tie.spec
-    element-copy-out-v
     wide-requires
     add-result
     returns
     returns-2
-    reference-of-requires
     returns-3
     less-one-requires
     wide-requires-2

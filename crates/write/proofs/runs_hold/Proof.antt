@@ -2,40 +2,49 @@
 use mathlib.Core.Path.{_≡_, sym, _∙_}
 use Prim.Native.Nat.{_≤_, _<_}
 use native.Mathlib.Omega.{arith}
+use Rattle.flatplan.specs.Flat.{runsOf}
 use Rattle.model.specs.Whole.{maxIndex}
 use Rattle.write.specs.Laws.{fit, runs-ignored, runs-many, runs-tested}
 use borrow.Author.Needs.{needs}
 use Rattle.write.proofs.runs_hold.Statement.{statement}
 use Rattle.write.proofs.runs_hold.Tie as tie
+use Rattle.write.proofs.runs_hold.Reads as reads
+use Rattle.write.proofs.runs_hold.Lts as lts
 
 greatest-requires : tie.Need-greatest-requires
-greatest-requires c κs = fit (c .args .cu) (c .pre) .entries
+greatest-requires c κs = fit (c .before .args .cu) (c .before .pre .0) .entries
 
 returns : tie.Need-returns
 unfolding maxIndex
 returns c =
-    let e : maxIndex (c .before .before .args .cu) ≡ 0 = sym (c .before .greatest .ensures .0) ∙ c .if1 .taken in
-    runs-ignored (c .before .before .args .cu) (c .before .before .args .runs) (c .before .before .args .count) e
+    let e : maxIndex (c .before .before .before .args .cu) ≡ 0 = sym (c .before .greatest .ensures .0) ∙ c .if1 .taken in
+    runs-ignored (c .before .before .before .args .cu) (runsOf (c .before .before .before .args .runs .now) (c .before .before .before .args .count)) (c .before .before .before .args .count) e
 
 returns-2 : tie.Need-returns-2
 unfolding maxIndex
 returns-2 c =
-    let o : 0 < maxIndex (c .before .before .before .args .cu) = omega (arith, c .before .before .greatest .ensures .0) in
-    runs-many (c .before .before .before .args .cu) (c .before .before .before .args .runs) (c .before .before .before .args .count) o (omega arith)
+    let o : 0 < maxIndex (c .before .before .before .before .args .cu) = omega (arith, c .before .before .greatest .ensures .0) in
+    runs-many (c .before .before .before .before .args .cu) (runsOf (c .before .before .before .before .args .runs .now) (c .before .before .before .before .args .count)) (c .before .before .before .before .args .count) o (omega arith)
 
 area-requires : tie.Need-area-requires
-area-requires c κs = fit (c .before .before .before .args .cu) (c .before .before .before .pre) .small
+area-requires c κs = fit (c .before .before .before .before .args .cu) (c .before .before .before .before .pre .0) .small
 
 replays-to-requires : tie.Need-replays-to-requires
-replays-to-requires c κs = (fit (c .before .before .before .before .before .before .args .cu) (c .before .before .before .before .before .before .pre) .least, c .before .before .area .ensures .1, omega arith, omega (arith, c .before .before .before .before .before .greatest .ensures .1))
+replays-to-requires c κs = (fit (c .before .before .before .before .before .before .before .args .cu) (c .before .before .before .before .before .before .before .pre .0) .least, fit (c .before .before .before .before .before .before .before .args .cu) (c .before .before .before .before .before .before .before .pre .0) .small, c .before .before .area .ensures .0, c .before .before .area .ensures .1, omega arith, omega (arith, c .before .before .before .before .before .greatest .ensures .1), omega arith)
 
 returns-3 : tie.Need-returns-3
 unfolding maxIndex
 returns-3 c =
-    let o : 0 < maxIndex (c .before .before .before .before .before .before .before .args .cu) = omega (arith, c .before .before .before .before .before .before .greatest .ensures .0) in
-    runs-tested (c .before .before .before .before .before .before .before .args .cu) (c .before .before .before .before .before .before .before .args .runs) (c .before .before .before .before .before .before .before .args .count) _ o (omega arith) (rw (c .before .before .before .area .ensures .0, c .before .before .before .before .before .before .greatest .ensures .0) at (c .replays-to .ensures))
+    let o : 0 < maxIndex (c .before .before .before .before .before .before .before .before .args .cu) = omega (arith, c .before .before .before .before .before .before .greatest .ensures .0) in
+    runs-tested (c .before .before .before .before .before .before .before .before .args .cu) (runsOf (c .before .before .before .before .before .before .before .before .args .runs .now) (c .before .before .before .before .before .before .before .before .args .count)) (c .before .before .before .before .before .before .before .before .args .count) _ o (omega arith) (rw (c .before .before .before .area .ensures .0, c .before .before .before .before .before .before .greatest .ensures .0) at (c .replays-to .ensures))
 
 pub runs-hold-spec : {M : Type 1} → statement M
 runs-hold-spec =
     tie.close
-    (tie.spec greatest-requires returns returns-2 area-requires replays-to-requires returns-3)
+    (tie.spec
+    greatest-requires
+    returns
+    returns-2
+    area-requires
+    replays-to-requires
+    returns-3)

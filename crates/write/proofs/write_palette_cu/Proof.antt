@@ -1,51 +1,46 @@
--- `write::write_palette_cu`
-use mathlib.Core.Path.{sym, _∙_}
+-- `write::write_palette_cu`: the runs as numbers, of which the first `count` are the same.
+use mathlib.Core.Path.{_≡_, sym, _∙_}
+use Prim.Native.Nat.{ℕ, _≤_}
 use native.Mathlib.Omega.{arith}
-use Rattle.write.specs.Laws.{early-not, write-early, write-nine, write-done}
+use lib.ListN.{length, take, replicate, length-replicate}
+use Rattle.flatplan.specs.First.{flat-first}
+use Rattle.write.specs.Laws.{write-same, after-same}
 use borrow.Author.Needs.{needs}
 use Rattle.write.proofs.write_palette_cu.Statement.{statement}
 use Rattle.write.proofs.write_palette_cu.Tie as tie
+use Rattle.write.proofs.write_palette_cu.Reads as reads
+use Rattle.write.proofs.write_palette_cu.Lts as lts
 
-refusal-of-requires : tie.Need-refusal-of-requires
-refusal-of-requires c κs = search needs
+slice-aggregate-lay-runs : tie.Need-slice-aggregate-lay-runs
+slice-aggregate-lay-runs c = search needs
 
-array-borrow-prefix-none : tie.Need-array-borrow-prefix-none
-array-borrow-prefix-none c = search needs
+lay-runs-requires : tie.Need-lay-runs-requires
+lay-runs-requires c κs = search needs
 
-slice-aggregate-put-block : tie.Need-slice-aggregate-put-block
-slice-aggregate-put-block c = search needs
+slice-aggregate-write-runs : tie.Need-slice-aggregate-write-runs
+slice-aggregate-write-runs c = search needs
 
-put-block-requires : tie.Need-put-block-requires
-put-block-requires c κs = let g = c .before .before .before .before .args in early-not (g .cu) (g .runs) (g .count) (g .list .now) (sym (c .before .before .refusal-of .ensures) ∙ c .before .if1 .taken)
-
-refused-requires : tie.Need-refused-requires
-refused-requires c κs = search needs
-
-returns : tie.Need-returns
-returns c =
-    let g = c .before .before .before .before .before .before .before .before .args in
-    write-nine (g .cu) (g .runs) (g .count) (g .list .now) _ (c .refused .ensures) (sym (c .before .before .before .before .before .before .refusal-of .ensures) ∙ c .before .before .before .before .before .if1 .taken) (omega (arith, c .before .before .before .put-block .ensures .next))
-
-put-block-requires-2 : tie.Need-put-block-requires-2
-put-block-requires-2 c κs = let g = c .before .before .before .before .before .before .before .before .args in early-not (g .cu) (g .runs) (g .count) (g .list .now) (sym (c .before .before .before .before .before .before .refusal-of .ensures) ∙ c .before .before .before .before .before .if1 .taken)
+write-runs-requires : tie.Need-write-runs-requires
+write-runs-requires c κs = search needs
 
 same-length : tie.Need-same-length
 same-length c = search needs
 
-returns-2 : tie.Need-returns-2
-returns-2 c =
-    let g = c .before .before .before .before .before .before .before .before .before .before .before .args in
-    write-done (g .cu) (g .runs) (g .count) (g .list .now) _ _ (sym (c .before .before .before .before .before .before .before .before .before .refusal-of .ensures) ∙ c .before .before .before .before .before .before .before .before .if1 .taken) (omega (arith, c .before .before .before .before .before .before .put-block .ensures .next)) (c .before .before .put-block2 .ensures)
-
-refused-requires-2 : tie.Need-refused-requires-2
-refused-requires-2 c κs = search needs
-
-returns-3 : tie.Need-returns-3
-returns-3 c =
-    let g = c .before .before .before .before .args in
-    write-early (g .cu) (g .runs) (g .count) (g .list .now) _ _ (c .refused2 .ensures) (c .before .before .refusal-of .ensures) (c .before .if1 .left)
+returns : tie.Need-returns
+returns c =
+    let g = c .before .before .before .before .before .before .before .before .before .args in
+    let n : length (g .runs) ≡ 1024 = search needs in
+    let w = rw (c .before .before .before .before .before .before .lay-runs .ensures) at (c .before .before .write-runs .ensures) in
+    let f = flat-first (replicate {A = ℕ} 4096 0) (g .runs) (g .count) (omega (arith, length-replicate {A = ℕ} 4096 0)) n in
+    (w .0 ∙ write-same (g .cu) _ (g .runs) (g .count) f _, w .1 ∙ after-same (g .cu) _ (g .runs) (g .count) f _)
 
 pub write-palette-cu-spec : {M : Type 1} → statement M
 write-palette-cu-spec =
     tie.close
-    (tie.spec refusal-of-requires array-borrow-prefix-none slice-aggregate-put-block put-block-requires refused-requires returns put-block-requires-2 same-length returns-2 refused-requires-2 returns-3)
+    (tie.spec
+    slice-aggregate-lay-runs
+    lay-runs-requires
+    slice-aggregate-write-runs
+    write-runs-requires
+    same-length
+    returns)
