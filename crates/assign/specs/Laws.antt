@@ -16,15 +16,15 @@ use Rattle.assign.specs.Assign.{nearestTo, indexOf}
 
 -- ---- one more entry
 
-nearest-none : (e : ℕ) (ps : List ℕ) → nearestTo e ps 0 ≡ 0
+pub nearest-none : (e : ℕ) (ps : List ℕ) → nearestTo e ps 0 ≡ 0
 unfolding nearestTo
 nearest-none e ps = refl
 
-nearer-suc : (e : ℕ) (ps : List ℕ) (k : ℕ) → dist e (getD ps k 0) < dist e (getD ps (nearestTo e ps k) 0) → nearestTo e ps (suc k) ≡ k
+pub nearer-suc : (e : ℕ) (ps : List ℕ) (k : ℕ) → dist e (getD ps k 0) < dist e (getD ps (nearestTo e ps k) 0) → nearestTo e ps (suc k) ≡ k
 unfolding nearestTo
 nearer-suc e ps k h = rw (lt-ltb _ _ h)
 
-same-suc : (e : ℕ) (ps : List ℕ) (k : ℕ) → dist e (getD ps (nearestTo e ps k) 0) ≤ dist e (getD ps k 0) → nearestTo e ps (suc k) ≡ nearestTo e ps k
+pub same-suc : (e : ℕ) (ps : List ℕ) (k : ℕ) → dist e (getD ps (nearestTo e ps k) 0) ≤ dist e (getD ps k 0) → nearestTo e ps (suc k) ≡ nearestTo e ps k
 unfolding nearestTo
 same-suc e ps k h = rw (le-ltb _ _ h)
 

@@ -1,3 +1,4 @@
 pub mod Assign
 pub mod Laws
 pub mod Memory
+pub mod Keys

@@ -21,7 +21,7 @@ pub struct Assigned {
 }
 
 // The cells of a block.
-fn area(size: usize) -> usize
+pub fn area(size: usize) -> usize
     requires { ⌜ size ≤ 32 ⌝ }
     ensures { λ r. ⌜ (r ≡ size * size) × (r ≤ 1024) ⌝ }
 {
@@ -85,7 +85,7 @@ fn map_block(c: PaletteConfig, transpose: bool, cu: PaletteCu, cells: &[u64; 102
 }
 
 // Whether assignment takes a block, which is the call's.
-fn block_in(c: PaletteConfig, g: SourceBlock, cu: PaletteCu) -> bool
+pub fn block_in(c: PaletteConfig, g: SourceBlock, cu: PaletteCu) -> bool
     ensures { λ r. ⌜ r ≡ blockIn c g cu ⌝ }
 {
     whole::assignable(64, cu) & whole::matches(c, cu) & (cu.size == g.size)

@@ -4,16 +4,12 @@ use mathlib.Core.List.{List}
 use Prim.Native.Nat.{ℕ}
 use lib.IntN.{ℤ}
 use lib.ListN.{set}
-use lib.Seq.{sets}
-use Rattle.assigning.specs.declared.Assigned.{Assigned}
 use Rattle.assigning.specs.Assigning.{assignOf}
 use Rattle.calls.specs.Calls.{answered}
-use Rattle.flat.specs.Flat.{blockOf, configOf, sourceOf, flatBlock}
+use Rattle.flat.specs.Flat.{blockOf, configOf, sourceOf}
+use Rattle.flatassign.specs.Answers.{assignLaid}
 use Rattle.sse.specs.declared.Figure.{Figure}
 use Rattle.sse.specs.Sse.{sseOf}
-
-abbrev pub assignLaid : Assigned → List ℕ → ℕ × List ℕ
-assignLaid done list = answered (done .refusal) list (sets list 0 (flatBlock (done .cu)))
 
 unfoldable pub assignOut : List ℕ → List ℕ → List ℕ → List ℤ → List ℕ → Bool → List ℕ → ℕ × List ℕ
 assignOut luma cb cr config source transpose block = assignLaid (assignOf luma cb cr (configOf config) (sourceOf source) transpose (blockOf block)) block

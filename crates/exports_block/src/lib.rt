@@ -6,10 +6,11 @@ use assigning::assign_indices;
 use flat::block_of;
 use flat::config_of;
 use flat::source_of;
+use flatassign::assign_list;
 use layflat::lay_block;
 use sse::palette_sse;
 
-// The block with its cells assigned to its palette.
+// The block with its cells assigned to its palette; in the list itself where that is whole.
 #[no_mangle]
 pub extern "C" fn velomitra_assign_indices(
     luma: &[u16],
@@ -25,6 +26,9 @@ pub extern "C" fn velomitra_assign_indices(
     let c = config_of(config);
     let g = source_of(source);
     let cu = block_of(block);
+    if 4432 <= block.len() {
+        return assign_list(luma, cb, cr, c, g, transpose, cu, block);
+    }
     let done = assign_indices(luma, cb, cr, c, g, transpose, cu);
     if done.refusal == 0 {
         let after = done.cu;

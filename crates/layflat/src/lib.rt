@@ -6,6 +6,7 @@ ghost use lib.Seq.{sets};
 ghost use Rattle.base.specs.Laid.{Laid};
 ghost use Rattle.h265.specs.Strings.{bit};
 ghost use Rattle.flat.specs.Flat.{short, headOf, colorsOf, levelsOf, flatBlock, flatPredictor};
+ghost use Rattle.layflat.specs.Front.{frontOf};
 use model::Color;
 use model::Levels;
 use model::PaletteCu;
@@ -144,19 +145,26 @@ fn lay_levels(list: &mut [u16], at: usize, ls: [Levels; 1024]) -> usize
     to
 }
 
-// A block, as far as the list reaches.
-pub fn lay_block(cu: PaletteCu, list: &mut [u16])
-    ensures { λ _. ⌜ now (list .exit) ≡ sets (now (list .entry)) 0 (flatBlock cu) ⌝ }
+// A block up to its levels; the next place.
+pub fn lay_front(cu: PaletteCu, list: &mut [u16]) -> usize
+    ensures { λ r. ⌜ Laid (now (list .entry)) 0 (frontOf cu) r (now (list .exit)) × (r ≡ 1360) ⌝ }
 {
     let first = head(cu);
     let palette = cu.palette;
     let flags = cu.reused;
     let indices = cu.indices;
-    let levels = cu.escapes;
     let a = lay_head(list, 0, first);
     let b = lay_palette(list, a, palette);
     let c = lay_flags(list, b, flags);
-    let d = lay_indices(list, c, indices);
+    lay_indices(list, c, indices)
+}
+
+// A block, as far as the list reaches.
+pub fn lay_block(cu: PaletteCu, list: &mut [u16])
+    ensures { λ _. ⌜ now (list .exit) ≡ sets (now (list .entry)) 0 (flatBlock cu) ⌝ }
+{
+    let levels = cu.escapes;
+    let d = lay_front(cu, list);
     lay_levels(list, d, levels);
 }
 

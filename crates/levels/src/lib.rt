@@ -59,7 +59,7 @@ fn one_level(used: bool, lossless: bool, step: u64, most: u64, v: u64) -> u16
 }
 
 // The levels of a colour.
-fn levels_of(s: Scale, e: u64) -> Levels
+pub fn levels_of(s: Scale, e: u64) -> Levels
     requires { ⌜ Fit s × Small e ⌝ }
     ensures { λ r. ⌜ r ≡ levelsOf s e ⌝ }
 {
@@ -119,7 +119,7 @@ fn one_value(lossless: bool, step: u64, most: u64, level: u16) -> u64
 }
 
 // The colour that levels decode to.
-fn values_of(s: Scale, l: Levels) -> u64
+pub fn values_of(s: Scale, l: Levels) -> u64
     requires { ⌜ Fit s ⌝ }
     ensures { λ r. ⌜ r ≡ valuesOf s l ⌝ }
 {
@@ -130,7 +130,7 @@ fn values_of(s: Scale, l: Levels) -> u64
 }
 
 // Entry k; 0 past the array.
-fn entry(palette: &[u64; 64], k: usize) -> u64
+pub fn entry(palette: &[u64; 64], k: usize) -> u64
     requires { ⌜ length (now palette) ≡ 64 ⌝ }
     ensures { λ r. ⌜ r ≡ getD (now (palette .entry)) k 0 ⌝ }
 {

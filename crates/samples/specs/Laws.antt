@@ -6,11 +6,11 @@ use Prim.Native.Nat.{ℕ, zero, suc, _+_, _*_, _-_, _/_, _%_, _≤_, _<_, min}
 use native.Mathlib.Omega.{arith}
 use lib.Arith.{digits-div, digits-mod}
 use lib.Dec.{eqb, leb}
-use lib.ListN.{getD}
+use lib.ListN.{getD, set}
 use borrow.Author.Tests.{ne-eqb, eqb-false, leb-true}
 use Rattle.base.specs.Pick.{pick, true-false}
 use Rattle.base.specs.Tests.{every, any, both, pick-test}
-use Rattle.base.specs.Cells.{laid, laid-same, laid-row}
+use Rattle.base.specs.Cells.{laid, laid-same, laid-row, laid-step}
 use Rattle.quant.specs.Quant.{packed}
 use Rattle.model.specs.Domain.{subW, subH, planesIn}
 use Rattle.model.specs.declared.SourceBlock.{SourceBlock}
@@ -35,6 +35,37 @@ pub color-at : (luma cb cr : List ℕ) (base w cbase cw x0 by a k : ℕ)
     → packed (inRow luma base w (x0 + k)) (inRow cb cbase cw ((x0 + k) / by)) (inRow cr cbase cw ((x0 + k) / by))
     ≡ colorCell luma cb cr base w cbase cw x0 by a (a + k)
 color-at luma cb cr base w cbase cw x0 by a k = let e : a + k - a ≡ k = omega arith in rw e
+
+-- within the planes no column is held
+within-whole : (plane : List ℕ) (base w x : ℕ) → x < w → getD plane (base + x) 0 ≡ inRow plane base w x
+within-whole plane base w x h = let e : min x (w - 1) ≡ x = omega arith in rw e
+
+pub whole-at : (luma cb cr : List ℕ) (base w cbase cw x0 size k : ℕ) → x0 + size ≤ w → x0 + size ≤ cw → k < size
+    → packed (getD luma (base + x0 + k) 0) (getD cb (cbase + x0 + k) 0) (getD cr (cbase + x0 + k) 0)
+    ≡ packed (inRow luma base w (x0 + k)) (inRow cb cbase cw ((x0 + k) / 1)) (inRow cr cbase cw ((x0 + k) / 1))
+whole-at luma cb cr base w cbase cw x0 size k h g l =
+    let d : (x0 + k) / 1 ≡ x0 + k = omega arith in
+    let a : base + x0 + k ≡ base + (x0 + k) = omega arith in
+    let b : cbase + x0 + k ≡ cbase + (x0 + k) = omega arith in
+    rw (d, a, b, within-whole luma base w (x0 + k) (omega arith), within-whole cb cbase cw (x0 + k) (omega arith), within-whole cr cbase cw (x0 + k) (omega arith))
+
+-- two cells to a sample of chroma
+pub pairs-at : (luma cb cr : List ℕ) (base w cbase cw x0 size k j p : ℕ) → x0 + size ≤ w → x0 + size ≤ 2 * cw → x0 % 2 ≡ 0 → size % 2 ≡ 0 → k < size / 2 → j ≤ 1 → p ≡ base + x0 + (2 * k + j)
+    → packed (getD luma p 0) (getD cb (cbase + x0 / 2 + k) 0) (getD cr (cbase + x0 / 2 + k) 0)
+    ≡ packed (inRow luma base w (x0 + (2 * k + j))) (inRow cb cbase cw ((x0 + (2 * k + j)) / 2)) (inRow cr cbase cw ((x0 + (2 * k + j)) / 2))
+pairs-at luma cb cr base w cbase cw x0 size k j p h g e f l m q =
+    let d : (x0 + (2 * k + j)) / 2 ≡ x0 / 2 + k = omega arith in
+    let a : p ≡ base + (x0 + (2 * k + j)) = omega arith in
+    let b : cbase + x0 / 2 + k ≡ cbase + (x0 / 2 + k) = omega arith in
+    rw (d, a, b, within-whole luma base w (x0 + (2 * k + j)) (omega arith), within-whole cb cbase cw (x0 / 2 + k) (omega arith), within-whole cr cbase cw (x0 / 2 + k) (omega arith))
+
+-- one turn that lays two cells
+pub laid-two : (f : ℕ → ℕ) (l out : List ℕ) (a k p q : ℕ) → out ≡ laid f l a (2 * k) → p ≡ f (a + (2 * k + 0)) → q ≡ f (a + (2 * k + 1)) → set (set out (a + 2 * k) p) (a + 2 * k + 1) q ≡ laid f l a (2 * (k + 1))
+laid-two f l out a k p q e x y =
+    let z : a + 2 * k + 1 ≡ a + (2 * k + 1) = omega arith in
+    let w : 2 * (k + 1) ≡ 2 * k + 1 + 1 = omega arith in
+    let o : 2 * k + 0 ≡ 2 * k = omega arith in
+    rw (z, w) (laid-step f l (set out (a + 2 * k) p) a (2 * k + 1) q (laid-step f l out a (2 * k) p e (rw o at x)) y)
 
 sample-row : (plane : List ℕ) (w h x y : ℕ) → 1 ≤ w → 1 ≤ h → sampleAt plane w h x y ≡ inRow plane (min y (h - 1) * w) w x
 unfolding sampleAt

@@ -1,7 +1,7 @@
 // The samples of a block from lent planes, as packed colours, row by row from the left.
 ghost use mathlib.Core.Path.{_≡_};
 ghost use mathlib.Core.Bool.{Bool, true, false};
-ghost use Prim.Native.Nat.{ℕ, _+_, _-_, _*_, _/_, _<_, _≤_, min};
+ghost use Prim.Native.Nat.{ℕ, _+_, _-_, _*_, _/_, _%_, _<_, _≤_, min};
 ghost use lib.ListN.{length};
 ghost use Rattle.base.specs.Cells.{laid};
 ghost use Rattle.model.specs.Domain.{subW, subH, sourceIn, planesIn};
@@ -67,8 +67,8 @@ fn row_grey(
     }
 }
 
-// One row with chroma, laid from place a on.
-fn row_color(
+// One row with chroma, each column held to the planes.
+fn row_held(
     luma: &[u16],
     cb: &[u16],
     cr: &[u16],
@@ -97,6 +97,127 @@ fn row_color(
         out[a + c] = p;
         c += 1;
     }
+}
+
+// One row with as many columns of chroma, within the planes.
+fn row_whole(
+    luma: &[u16],
+    cb: &[u16],
+    cr: &[u16],
+    base: usize,
+    w: usize,
+    cbase: usize,
+    cw: usize,
+    x0: usize,
+    size: usize,
+    out: &mut [u64; 1024],
+    a: usize,
+)
+    requires { ⌜ (base + w ≤ length (now luma)) × (cbase + cw ≤ length (now cb)) × (cbase + cw ≤ length (now cr)) ⌝ }
+    requires { ⌜ (x0 + size ≤ w) × (x0 + size ≤ cw) × (size ≤ 32) × (a + size ≤ 1024) ⌝ }
+    ensures { λ _. ⌜ now (out .exit) ≡ laid (colorCell (now (luma .entry)) (now (cb .entry)) (now (cr .entry)) base w cbase cw x0 1 a) (now (out .entry)) a size ⌝ }
+{
+    let from = base + x0;
+    let cfrom = cbase + x0;
+    let mut c: usize = 0;
+    while c < size {
+        let p = entries::pack(luma[from + c], cb[cfrom + c], cr[cfrom + c]);
+        out[a + c] = p;
+        c += 1;
+    }
+}
+
+// One row with half as many columns of chroma, within the planes, from an even column on: two cells at a turn.
+fn row_pairs(
+    luma: &[u16],
+    cb: &[u16],
+    cr: &[u16],
+    base: usize,
+    w: usize,
+    cbase: usize,
+    cw: usize,
+    x0: usize,
+    size: usize,
+    out: &mut [u64; 1024],
+    a: usize,
+)
+    requires { ⌜ (base + w ≤ length (now luma)) × (cbase + cw ≤ length (now cb)) × (cbase + cw ≤ length (now cr)) ⌝ }
+    requires { ⌜ (x0 + size ≤ w) × (x0 + size ≤ 2 * cw) × (x0 % 2 ≡ 0) × (size % 2 ≡ 0) × (size ≤ 32) × (a + size ≤ 1024) ⌝ }
+    ensures { λ _. ⌜ now (out .exit) ≡ laid (colorCell (now (luma .entry)) (now (cb .entry)) (now (cr .entry)) base w cbase cw x0 2 a) (now (out .entry)) a size ⌝ }
+{
+    let from = base + x0;
+    let cfrom = cbase + x0 / 2;
+    let half = size / 2;
+    let mut c: usize = 0;
+    while c < half {
+        let u = cb[cfrom + c];
+        let v = cr[cfrom + c];
+        let p = entries::pack(luma[from + 2 * c], u, v);
+        let q = entries::pack(luma[from + 2 * c + 1], u, v);
+        out[a + 2 * c] = p;
+        out[a + 2 * c + 1] = q;
+        c += 1;
+    }
+}
+
+// Yes only where a row with as many columns of chroma lies within the planes.
+fn whole_in(x0: usize, by: usize, size: usize, w: usize, cw: usize) -> bool
+    requires { ⌜ (x0 ≤ 65535) × (size ≤ 32) ⌝ }
+    ensures { λ r. ⌜ (r ≡ true → (by ≡ 1) × (x0 + size ≤ w) × (x0 + size ≤ cw)) ⌝ }
+{
+    if by == 1 {
+        if x0 + size <= w {
+            return x0 + size <= cw;
+        }
+    }
+    false
+}
+
+// Yes only where a row with half as many columns of chroma lies within the planes, from an even column on.
+fn pairs_in(x0: usize, by: usize, size: usize, w: usize, cw: usize) -> bool
+    requires { ⌜ (x0 ≤ 65535) × (size ≤ 32) ⌝ }
+    ensures { λ r. ⌜ (r ≡ true → (by ≡ 2) × (x0 % 2 ≡ 0) × (size % 2 ≡ 0) × (x0 + size ≤ w) × (x0 + size ≤ 2 * cw)) ⌝ }
+{
+    if by == 2 {
+        if x0 % 2 == 0 {
+            if size % 2 == 0 {
+                if x0 + size <= w {
+                    return (x0 + size) / 2 <= cw;
+                }
+            }
+        }
+    }
+    false
+}
+
+// One row with chroma, laid from place a on.
+fn row_color(
+    luma: &[u16],
+    cb: &[u16],
+    cr: &[u16],
+    base: usize,
+    w: usize,
+    cbase: usize,
+    cw: usize,
+    x0: usize,
+    by: usize,
+    size: usize,
+    out: &mut [u64; 1024],
+    a: usize,
+)
+    requires { ⌜ (1 ≤ w) × (base + w ≤ length (now luma)) × (1 ≤ cw) × (cbase + cw ≤ length (now cb)) × (cbase + cw ≤ length (now cr)) ⌝ }
+    requires { ⌜ (x0 ≤ 65535) × (1 ≤ by) × (by ≤ 2) × (size ≤ 32) × (a + size ≤ 1024) ⌝ }
+    ensures { λ _. ⌜ now (out .exit) ≡ laid (colorCell (now (luma .entry)) (now (cb .entry)) (now (cr .entry)) base w cbase cw x0 by a) (now (out .entry)) a size ⌝ }
+{
+    if whole_in(x0, by, size, w, cw) {
+        row_whole(luma, cb, cr, base, w, cbase, cw, x0, size, out, a);
+        return;
+    }
+    if pairs_in(x0, by, size, w, cw) {
+        row_pairs(luma, cb, cr, base, w, cbase, cw, x0, size, out, a);
+        return;
+    }
+    row_held(luma, cb, cr, base, w, cbase, cw, x0, by, size, out, a);
 }
 
 // Columns of luma to one of chroma.

@@ -1,2 +1,3 @@
 pub mod Source
 pub mod Laws
+pub mod Joined

@@ -7,6 +7,7 @@ ghost use lib.ListN.{length, getD};
 ghost use Rattle.base.specs.Tests.{refusal};
 ghost use Rattle.model.specs.Domain.{depthIn, most};
 ghost use Rattle.source.specs.Source.{fits, allFit, planeTests, sourceTests, cellsIn};
+ghost use Rattle.source.specs.Joined.{Above};
 use model::PaletteConfig;
 use model::SourceBlock;
 
@@ -17,8 +18,8 @@ fn fit(c: u64, ym: u64, cm: u64) -> bool
     (c % 65536 <= ym) & (c / 65536 % 65536 <= cm) & (c / 4294967296 % 65536 <= cm)
 }
 
-// Whether the first n colours fit.
-pub fn all_fit(cells: &[u64; 1024], n: usize, ym: u64, cm: u64) -> bool
+// Whether the first n colours fit, one by one.
+fn each_fits(cells: &[u64; 1024], n: usize, ym: u64, cm: u64) -> bool
     requires { ⌜ n ≤ 1024 ⌝ }
     ensures { λ r. ⌜ r ≡ allFit ym cm n (λ j. getD (now (cells .entry)) j 0) ⌝ }
 {
@@ -29,6 +30,31 @@ pub fn all_fit(cells: &[u64; 1024], n: usize, ym: u64, cm: u64) -> bool
         i += 1;
     }
     ok
+}
+
+// The first n colours joined, bit by bit: no component of theirs is greater.
+fn joined(cells: &[u64; 1024], n: usize) -> u64
+    requires { ⌜ n ≤ 1024 ⌝ }
+    ensures { λ r. ⌜ Above (now (cells .entry)) n r ⌝ }
+{
+    let mut all: u64 = 0;
+    let mut i: usize = 0;
+    while i < n {
+        all = all | cells[i];
+        i += 1;
+    }
+    all
+}
+
+// Whether the first n colours fit: all of them where they fit joined.
+pub fn all_fit(cells: &[u64; 1024], n: usize, ym: u64, cm: u64) -> bool
+    requires { ⌜ n ≤ 1024 ⌝ }
+    ensures { λ r. ⌜ r ≡ allFit ym cm n (λ j. getD (now (cells .entry)) j 0) ⌝ }
+{
+    if fit(joined(cells, n), ym, cm) {
+        return true;
+    }
+    each_fits(cells, n, ym, cm)
 }
 
 // Whether the block's colours fit their depths.

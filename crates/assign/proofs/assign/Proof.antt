@@ -16,21 +16,25 @@ use Rattle.assign.proofs.assign.Reads as reads
 use Rattle.assign.proofs.assign.Lts as lts
 use Rattle.assign.proofs.count_if.Reads as count-if-reads
 use Rattle.assign.proofs.index_next.Reads as index-next-reads
+use Rattle.assign.proofs.split.Reads as split-reads
 
 abbrev Inv-loop : tie.InvT-loop
-Inv-loop cells m palette n tol indices₀ first keys₀ vals₀ last₀ at₀ escapes₀ i₀ indices keys vals last at escapes i =
+Inv-loop cells m palette n tol indices₀ first ys us vs keys₀ vals₀ last₀ at₀ escapes₀ i₀ indices keys vals last at escapes i =
     (i ≤ m) × (at ≡ indexOf tol palette n last) × Cached tol palette n keys vals × (escapes ≡ howMany i (λ (j : ℕ). eqb (indexOf tol palette n (getD cells j 0)) n)) × (escapes ≤ i)
     × (indices ≡ laid (λ (j : ℕ). indexOf tol palette n (getD cells j 0)) indices₀ 0 i)
 
 abbrev μ-loop : tie.MeasureT-loop
-μ-loop cells m palette n tol indices₀ first keys₀ vals₀ last₀ at₀ escapes₀ i₀ indices keys vals last at escapes i = m - i
+μ-loop cells m palette n tol indices₀ first ys us vs keys₀ vals₀ last₀ at₀ escapes₀ i₀ indices keys vals last at escapes i = m - i
 
 element-copy-out-first : tie.Need-element-copy-out-first Inv-loop μ-loop
 element-copy-out-first c = search needs
 
+split-requires : tie.Need-split-requires Inv-loop μ-loop
+split-requires c κs = search needs
+
 loop-holds : tie.Need-loop-holds Inv-loop μ-loop
 loop-holds c =
-    let s = c .before .args in (
+    let s = c .before .before .before .before .before .args in (
       omega arith,
       sym (index-first (s .tol) (s .palette .now) (s .n)),
       cached-start (s .tol) (s .palette .now) (s .n),
@@ -46,7 +50,7 @@ element-copy-out-c : tie.Need-element-copy-out-c Inv-loop μ-loop
 element-copy-out-c c = search needs
 
 index-next-requires : tie.Need-index-next-requires Inv-loop μ-loop
-index-next-requires c κs = search needs
+index-next-requires c κs = ((c .before .before .before .before .before .before .before .before .before .before .before .before .before .pre .1, c .before .before .before .before .before .before .before .before .before .before .before .before .before .pre .2, c .before .before .before .before .before .before .before .loop .inv .1), (c .before .before .before .before .before .before .before .loop .inv .2, c .before .before .before .before .before .before .before .before .before .before .before .split .ensures))
 
 element-write-indices : tie.Need-element-write-indices Inv-loop μ-loop
 element-write-indices c = search needs
@@ -62,8 +66,8 @@ loop-less c = search needs
 
 loop-again : tie.Need-loop-again Inv-loop μ-loop
 loop-again c =
-    let l = c .before .before .before .before .before .before .loop in
-    let s = c .before .before .before .before .before .before .before .before .args in
+    let l = c .before .before .before .before .before .before .before .before .before .loop in
+    let s = c .before .before .before .before .before .before .before .before .before .before .before .before .before .before .before .args in
     let x = c .before .index-next in (
       omega arith,
       x .ensures .0,
@@ -77,7 +81,7 @@ returns : tie.Need-returns Inv-loop μ-loop
 unfolding escapesOf
 returns c =
     let l = c .before .loop in
-    let e : l .i ≡ c .before .before .before .args .m = omega arith in
+    let e : l .i ≡ c .before .before .before .before .before .before .before .args .m = omega arith in
     (rw e at (l .inv .3), laid-done _ _ _ _ _ _ (l .inv .5) e, omega arith)
 
 pub assign-spec : {M : Type 1} → statement M
@@ -87,6 +91,7 @@ assign-spec =
     Inv-loop
     μ-loop
     element-copy-out-first
+    split-requires
     loop-holds
     mul-c
     element-copy-out-c

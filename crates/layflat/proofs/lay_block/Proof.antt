@@ -1,54 +1,28 @@
--- `layflat::lay_block`: part after part.
+-- `layflat::lay_block`: the levels after the rest.
+use mathlib.Core.Path.{ap, _∙_}
 use native.Mathlib.Omega.{arith}
+use lib.Seq.{sets}
 use Rattle.base.specs.Laid.{laid-then}
-use Rattle.flat.specs.Flat.{flatBlock}
+use Rattle.layflat.specs.Front.{flat-front}
 use borrow.Author.Needs.{needs}
 use Rattle.layflat.proofs.lay_block.Statement.{statement}
 use Rattle.layflat.proofs.lay_block.Tie as tie
 use Rattle.layflat.proofs.lay_block.Reads as reads
 use Rattle.layflat.proofs.lay_block.Lts as lts
-use Rattle.layflat.proofs.head.Reads as head-reads
-use Rattle.layflat.proofs.lay_flags.Reads as lay-flags-reads
-use Rattle.layflat.proofs.lay_head.Reads as lay-head-reads
-use Rattle.layflat.proofs.lay_indices.Reads as lay-indices-reads
+use Rattle.layflat.proofs.lay_front.Reads as lay-front-reads
 use Rattle.layflat.proofs.lay_levels.Reads as lay-levels-reads
-use Rattle.layflat.proofs.lay_palette.Reads as lay-palette-reads
 
-head-requires : tie.Need-head-requires
-head-requires c κs = search needs
-
-lay-head-requires : tie.Need-lay-head-requires
-lay-head-requires c κs = search needs
-
-lay-palette-requires : tie.Need-lay-palette-requires
-lay-palette-requires c κs = omega (arith, c .before .before .before .lay-head .ensures .1)
-
-lay-flags-requires : tie.Need-lay-flags-requires
-lay-flags-requires c κs = omega (arith, c .before .before .before .before .before .before .before .lay-head .ensures .1, c .before .before .before .lay-palette .ensures .1)
-
-lay-indices-requires : tie.Need-lay-indices-requires
-lay-indices-requires c κs = omega (arith, c .before .before .before .before .before .before .before .before .before .before .before .lay-head .ensures .1, c .before .before .before .before .before .before .before .lay-palette .ensures .1, c .before .before .before .lay-flags .ensures .1)
+lay-front-requires : tie.Need-lay-front-requires
+lay-front-requires c κs = search needs
 
 lay-levels-requires : tie.Need-lay-levels-requires
-lay-levels-requires c κs = omega (arith, c .before .before .before .before .before .before .before .before .before .before .before .before .before .before .before .lay-head .ensures .1, c .before .before .before .before .before .before .before .before .before .before .before .lay-palette .ensures .1, c .before .before .before .before .before .before .before .lay-flags .ensures .1, c .before .before .before .lay-indices .ensures .1)
+lay-levels-requires c κs = omega (arith, c .before .before .before .lay-front .ensures .1)
 
 same-length : tie.Need-same-length
 same-length c = search needs
 
 returns : tie.Need-returns
-unfolding flatBlock
-returns c =
-    laid-then (rw (c .before .before .before .before .before .before .before .before .before .before .before .before .before .before .before .before .before .before .before .before .before .before .before .before .head .ensures) at (c .before .before .before .before .before .before .before .before .before .before .before .before .before .before .before .before .before .before .lay-head .ensures .0)) (laid-then (c .before .before .before .before .before .before .before .before .before .before .before .before .before .before .lay-palette .ensures .0) (laid-then (c .before .before .before .before .before .before .before .before .before .before .lay-flags .ensures .0) (laid-then (c .before .before .before .before .before .before .lay-indices .ensures .0) (c .before .before .lay-levels .ensures)))) .after
+returns c = laid-then (c .before .before .before .before .before .before .lay-front .ensures .0) (c .before .before .lay-levels .ensures) .after ∙ ap (sets (c .before .before .before .before .before .before .before .before .before .before .args .list .now) 0) (flat-front (c .before .before .before .before .before .before .before .before .before .before .args .cu))
 
 pub lay-block-spec : {M : Type 1} → statement M
-lay-block-spec =
-    tie.close
-    (tie.spec
-    head-requires
-    lay-head-requires
-    lay-palette-requires
-    lay-flags-requires
-    lay-indices-requires
-    lay-levels-requires
-    same-length
-    returns)
+lay-block-spec = tie.close (tie.spec lay-front-requires lay-levels-requires same-length returns)

@@ -1,90 +1,48 @@
--- `samples::row_color`. The loop's invariant: the columns passed are laid.
-use mathlib.Core.Path.{_≡_, sym, _∙_}
-use Prim.Native.Nat.{_+_, _-_, _≤_}
-use native.Mathlib.Omega.{arith}
-use Rattle.base.specs.Cells.{laid, laid-none, laid-step, laid-done}
-use Rattle.samples.specs.Laws.{colorCell, color-at}
+-- `samples::row_color`: a row within the planes in its own way, any other held to them.
 use borrow.Author.Needs.{needs}
 use Rattle.samples.proofs.row_color.Statement.{statement}
 use Rattle.samples.proofs.row_color.Tie as tie
 use Rattle.samples.proofs.row_color.Reads as reads
 use Rattle.samples.proofs.row_color.Lts as lts
-use Rattle.entries.proofs.pack.Reads as pack-reads
-use Rattle.samples.proofs.down.Reads as down-reads
-use Rattle.samples.proofs.in_row.Reads as in-row-reads
+use Rattle.samples.proofs.pairs_in.Reads as pairs-in-reads
+use Rattle.samples.proofs.row_held.Reads as row-held-reads
+use Rattle.samples.proofs.row_pairs.Reads as row-pairs-reads
+use Rattle.samples.proofs.row_whole.Reads as row-whole-reads
+use Rattle.samples.proofs.whole_in.Reads as whole-in-reads
 
-abbrev Inv-loop : tie.InvT-loop
-Inv-loop luma cb cr base w cbase cw x0 by size out₀ a c₀ out c = (c ≤ size) × (out ≡ laid (colorCell luma cb cr base w cbase cw x0 by a) out₀ a c)
+whole-in-requires : tie.Need-whole-in-requires
+whole-in-requires c κs = search needs
 
-abbrev μ-loop : tie.MeasureT-loop
-μ-loop luma cb cr base w cbase cw x0 by size out₀ a c₀ out c = size - c
+row-whole-requires : tie.Need-row-whole-requires
+row-whole-requires c κs = let t = c .before .before .whole-in .ensures (c .before .if1 .taken) in ((c .before .before .before .before .before .before .pre .0 .1, c .before .before .before .before .before .before .pre .0 .3, c .before .before .before .before .before .before .pre .0 .4), (t .1, t .2, c .before .before .before .before .before .before .pre .1 .3, c .before .before .before .before .before .before .pre .1 .4))
 
-loop-holds : tie.Need-loop-holds Inv-loop μ-loop
-loop-holds c = (omega arith, sym (laid-none _ _ _))
+returns : tie.Need-returns
+returns c = rw (c .before .before .before .whole-in .ensures (c .before .before .if1 .taken) .0) (c .row-whole .ensures)
 
-add-x : tie.Need-add-x Inv-loop μ-loop
-add-x c = search needs
+pairs-in-requires : tie.Need-pairs-in-requires
+pairs-in-requires c κs = search needs
 
-in-row-requires : tie.Need-in-row-requires Inv-loop μ-loop
-in-row-requires c κs = search needs
+row-pairs-requires : tie.Need-row-pairs-requires
+row-pairs-requires c κs = let t = c .before .before .pairs-in .ensures (c .before .if2 .taken) in ((c .before .before .before .before .before .before .before .before .pre .0 .1, c .before .before .before .before .before .before .before .before .pre .0 .3, c .before .before .before .before .before .before .before .before .pre .0 .4), (t .3, t .4, t .1, t .2, c .before .before .before .before .before .before .before .before .pre .1 .3, c .before .before .before .before .before .before .before .before .pre .1 .4))
 
-down-requires : tie.Need-down-requires Inv-loop μ-loop
-down-requires c κs = search needs
+returns-2 : tie.Need-returns-2
+returns-2 c = rw (c .before .before .before .pairs-in .ensures (c .before .before .if2 .taken) .0) (c .row-pairs .ensures)
 
-in-row-requires-2 : tie.Need-in-row-requires-2 Inv-loop μ-loop
-in-row-requires-2 c κs = search needs
+row-held-requires : tie.Need-row-held-requires
+row-held-requires c κs = search needs
 
-in-row-requires-3 : tie.Need-in-row-requires-3 Inv-loop μ-loop
-in-row-requires-3 c κs = search needs
-
-pack-requires : tie.Need-pack-requires Inv-loop μ-loop
-pack-requires c κs = search needs
-
-add-out : tie.Need-add-out Inv-loop μ-loop
-add-out c = search needs
-
-mul-out : tie.Need-mul-out Inv-loop μ-loop
-mul-out c = search needs
-
-element-write-out : tie.Need-element-write-out Inv-loop μ-loop
-element-write-out c = search needs
-
-add-c : tie.Need-add-c Inv-loop μ-loop
-add-c c = search needs
-
-loop-less : tie.Need-loop-less Inv-loop μ-loop
-loop-less c = search needs
-
-loop-again : tie.Need-loop-again Inv-loop μ-loop
-loop-again c =
-    let s = c .before .before .before .before .before .before .before .before .before .before .args in
-    let l = c .before .before .before .before .before .before .loop in (
-      omega arith,
-      laid-step (colorCell (s .luma .now) (s .cb .now) (s .cr .now) (s .base) (s .w) (s .cbase) (s .cw) (s .x0) (s .by) (s .a)) (s .out .now) (l .out) (s .a) (l .c) (c .pack .result) (l .inv .1)
-          (c .pack .ensures ∙ rw (c .before .before .before .before .in-row .ensures, c .before .before .in-row2 .ensures, c .before .in-row3 .ensures, c .before .before .before .down .ensures)
-          (color-at (s .luma .now) (s .cb .now) (s .cr .now) (s .base) (s .w) (s .cbase) (s .cw) (s .x0) (s .by) (s .a) (l .c))),
-    )
-
-returns : tie.Need-returns Inv-loop μ-loop
-returns c = laid-done _ _ _ _ _ _ (c .before .loop .inv .1) (omega arith)
+returns-3 : tie.Need-returns-3
+returns-3 c = search needs
 
 pub row-color-spec : {M : Type 1} → statement M
 row-color-spec =
     tie.close
     (tie.spec
-    Inv-loop
-    μ-loop
-    loop-holds
-    add-x
-    in-row-requires
-    down-requires
-    in-row-requires-2
-    in-row-requires-3
-    pack-requires
-    add-out
-    mul-out
-    element-write-out
-    add-c
-    loop-less
-    loop-again
-    returns)
+    whole-in-requires
+    row-whole-requires
+    returns
+    pairs-in-requires
+    row-pairs-requires
+    returns-2
+    row-held-requires
+    returns-3)
