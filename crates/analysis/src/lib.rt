@@ -35,7 +35,7 @@ fn refused(number: u8, counter: ColorIndex) -> Analyzed
 }
 
 // The cells of a block.
-fn area(size: usize) -> usize
+pub fn area(size: usize) -> usize
     requires { ⌜ size ≤ 32 ⌝ }
     ensures { λ r. ⌜ (r ≡ size * size) × (r ≤ 1024) ⌝ }
 {
@@ -43,7 +43,7 @@ fn area(size: usize) -> usize
 }
 
 // The bits of a depth over 8.
-fn over_eight(depth: u8) -> u64
+pub fn over_eight(depth: u8) -> u64
     requires { ⌜ depthIn depth ≡ true ⌝ }
     ensures { λ r. ⌜ (r ≡ depth - 8) × (r ≤ 8) ⌝ }
 {
@@ -131,7 +131,7 @@ pub fn analyze_with(
 }
 
 // The tolerance of the luma QP and the lossless flag.
-fn tolerance_at(c: PaletteConfig) -> u64
+pub fn tolerance_at(c: PaletteConfig) -> u64
     requires { ⌜ configIn c ≡ true ⌝ }
     ensures { λ r. ⌜ r ≡ toleranceAt c ⌝ }
 {

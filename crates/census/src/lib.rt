@@ -2,11 +2,10 @@
 ghost use mathlib.Core.Path.{_≡_};
 ghost use mathlib.Core.List.{List, [], _∷_};
 ghost use Prim.Native.Nat.{ℕ, _+_, _*_, _<_, _≤_};
-ghost use lib.ListN.{length, getD, take};
-ghost use Rattle.colors.specs.Table.{tab, Holds, answerOf, afterOf};
-ghost use Rattle.colors.specs.Place.{Distinct};
+ghost use lib.ListN.{getD, set};
+ghost use Rattle.colors.specs.Table.{tab, Holds};
 ghost use Rattle.census.specs.Census.{censusOf, tableTo};
-ghost use Rattle.census.specs.Going.{Noted};
+ghost use Rattle.census.specs.Going.{Noted, Run};
 
 // The distinct colours of a block as first met, with their counts; 0 behind them.
 pub struct Census {
@@ -36,32 +35,30 @@ fn note(met: &mut [u64; 128], counts: &mut [u32; 128], p: usize, d: usize, key: 
     d + 1
 }
 
-// The place of a colour, the last place tried before the counter is asked.
-fn place(
-    keys: &mut [u64; 256],
-    entry: &mut [u16; 256],
-    stamp: &mut [u32; 256],
-    generation: u32,
-    met: &[u64; 128],
-    d: usize,
-    last: usize,
-    key: u64,
-) -> usize
-    requires { ⌜ (d ≤ 128) × (length (now met) ≡ 128) × Distinct (take d (now met)) ⌝ }
-    requires { ⌜ Holds (tab (now keys) (now entry) (now stamp)) generation (take d (now met)) ⌝ }
-    ensures { λ r. ⌜ (r ≡ answerOf (tab (now (keys .entry)) (now (entry .entry)) (now (stamp .entry))) generation key d)
-        × (tab (now (keys .exit)) (now (entry .exit)) (now (stamp .exit))
-        ≡ afterOf (tab (now (keys .entry)) (now (entry .entry)) (now (stamp .entry))) generation key d) ⌝ }
+// Where a run of a colour ends: the first place from a given one on that has another, or n.
+fn run_end(samples: &[u64; 1024], n: usize, from: usize, key: u64) -> usize
+    requires { ⌜ (n ≤ 1024) × (from ≤ n) ⌝ }
+    ensures { λ r. ⌜ Run (now (samples .entry)) n from key r ⌝ }
 {
-    if last < d {
-        if met[last] == key {
-            return last;
+    let mut j = from;
+    while j < n {
+        if samples[j] != key {
+            return j;
         }
+        j += 1;
     }
-    wide(colors::lookup_or_insert(keys, entry, stamp, generation, key, d as u16))
+    j
 }
 
-// The colours of n samples with their counts; 129 and none where there are more than 128.
+// A colour's count, so many more.
+fn add(counts: &mut [u32; 128], p: usize, more: usize)
+    requires { ⌜ (p < 128) × (getD (now counts) p 0 ≤ 1024) × (more ≤ 1024) ⌝ }
+    ensures { λ _. ⌜ now (counts .exit) ≡ set (now (counts .entry)) p (getD (now (counts .entry)) p 0 + more) ⌝ }
+{
+    counts[p] = counts[p] + more as u32;
+}
+
+// The colours of n samples with their counts, a run of one colour at a turn; 129 and none where there are more than 128.
 pub fn count(
     samples: &[u64; 1024],
     n: usize,
@@ -80,10 +77,9 @@ pub fn count(
     let mut counts: [u32; 128] = [0; 128];
     let mut d: usize = 0;
     let mut i: usize = 0;
-    let mut last: usize = 0;
     while i < n {
         let key = samples[i];
-        let p = place(keys, entry, stamp, generation, &met, d, last, key);
+        let p = wide(colors::lookup_or_insert(keys, entry, stamp, generation, key, d as u16));
         if p == 128 {
             return Census {
                 distinct: 129,
@@ -92,8 +88,9 @@ pub fn count(
             };
         }
         d = note(&mut met, &mut counts, p, d, key);
-        last = p;
-        i += 1;
+        let j = run_end(samples, n, i + 1, key);
+        add(&mut counts, p, j - (i + 1));
+        i = j;
     }
     Census {
         distinct: d,

@@ -1,16 +1,17 @@
 -- The laws of the colour counter: a look-up answers the key's place among the numbers met.
-use mathlib.Core.Bool.{Bool, true, false}
+use mathlib.Core.Bool.{Bool, true, false, _&&_}
 use mathlib.Core.List.{List, [], _∷_, _++_}
 use mathlib.Core.Logic.{_⊎_, inl, inr, ⊎-elim}
 use mathlib.Core.Path.{_≡_, refl, sym, _∙_, ap, subst}
 use Prim.Native.Nat.{ℕ, zero, suc, _+_, _-_, _*_, _/_, _%_, _^_, _≤_, _<_}
 use native.Mathlib.Omega.{arith}
 use native.Mathlib.Numerals.{add-one}
-use borrow.Author.Tests.{eq-eqb, ne-eqb, lt-ltb, le-ltb}
-use lib.Dec.{eqb, ltb}
+use borrow.Author.Tests.{eq-eqb, ne-eqb, lt-ltb, le-ltb, le-leb, lt-leb}
+use lib.Dec.{eqb, ltb, leb}
 use lib.ListN.{length, getD, set, drop, drop-of-length-le, length-set, length-append, replicate, length-replicate, getD-replicate}
 use lib.Seq.{getD-set-same, getD-set-other, drop-cons}
 use Rattle.base.specs.Pick.{pick, lt-or-le, eq-or-ne, true-false}
+use Rattle.base.specs.Tests.{pick-test}
 use Rattle.colors.specs.Place.{placeOf, place-le, place-kept, place-new, place-other, seen}
 use Rattle.colors.specs.Table.{Table, tab, hashOf, slotAt, stops, probe, slotOf, answerOf, afterOf, generationOf, stampsOf, stamped, noneAbove, Path, Holds}
 
@@ -283,17 +284,21 @@ above-on : (g s : ℕ) (ss : List ℕ) → s ≤ g → noneAbove g (s ∷ ss) �
 unfolding noneAbove
 above-on g s ss h = rw (le-ltb g s h)
 
+-- the stamps passed hold, and the rest
+above-split : (g : ℕ) (ss : List ℕ) (i : ℕ) → i < length ss → noneAbove g (drop i ss) ≡ pick (leb (getD ss i 0) g) (noneAbove g (drop (i + 1) ss)) false
+above-split g ss i l =
+    rw (drop-cons ss i 0 l, add-one i)
+    (⊎-elim (λ (q : g < getD ss i 0). above-here g (getD ss i 0) (drop (suc i) ss) q ∙ rw (lt-leb (getD ss i 0) g q)) (λ (q : getD ss i 0 ≤ g). above-on g (getD ss i 0) (drop (suc i) ss) q ∙ rw (le-leb (getD ss i 0) g q))
+    (lt-or-le g (getD ss i 0)))
+
 -- one turn of a loop over the stamps, and its end
-module _ (g : ℕ) (ss : List ℕ) (i : ℕ) (l : i < length ss) where
-  pub above-found : g < getD ss i 0 → noneAbove g (drop i ss) ≡ false
-  above-found h = rw (drop-cons ss i 0 l) (above-here g (getD ss i 0) (drop (suc i) ss) h)
+pub above-next : (g : ℕ) (ss : List ℕ) (i : ℕ) (ok : Bool) → i < length ss → pick (ok && leb (getD ss i 0) g) (noneAbove g (drop (i + 1) ss)) false ≡ pick ok (noneAbove g (drop i ss)) false
+above-next g ss i true l = sym (above-split g ss i l)
+above-next g ss i false l = refl
 
-  pub above-next : getD ss i 0 ≤ g → noneAbove g (drop i ss) ≡ noneAbove g (drop (i + 1) ss)
-  above-next h = rw (drop-cons ss i 0 l, add-one i) (above-on g (getD ss i 0) (drop (suc i) ss) h)
-
-pub above-end : (g : ℕ) (ss : List ℕ) (i : ℕ) → length ss ≤ i → noneAbove g (drop i ss) ≡ true
+pub above-end : (g : ℕ) (ss : List ℕ) (i : ℕ) (ok : Bool) → length ss ≤ i → ok ≡ pick ok (noneAbove g (drop i ss)) false
 unfolding noneAbove
-above-end g ss i h = rw (drop-of-length-le ss {i = i} h)
+above-end g ss i ok h = rw (drop-of-length-le ss {i = i} h) (sym (pick-test ok))
 
 -- the test says it of each stamp
 pub none-above : (g : ℕ) (ss : List ℕ) → noneAbove g ss ≡ true → (s : ℕ) → getD ss s 0 ≤ g

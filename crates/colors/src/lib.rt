@@ -2,6 +2,7 @@
 ghost use mathlib.Core.Path.{_≡_};
 ghost use mathlib.Core.Bool.{Bool, true};
 ghost use Prim.Native.Nat.{ℕ, _+_, _*_, _<_, _≤_};
+ghost use lib.ListN.{length};
 ghost use Rattle.colors.specs.Table.{tab, hashOf, slotOf, answerOf, afterOf, generationOf, stampsOf, noneAbove, unused};
 
 // Colours with their numbers: slot s holds one where its stamp is the generation.
@@ -25,17 +26,26 @@ pub fn new() -> ColorIndex
 }
 
 // Whether no stamp is above the generation.
+pub fn none_above(stamp: &[u32; 256], generation: u32) -> bool
+    requires { ⌜ length (now stamp) ≡ 256 ⌝ }
+    ensures { λ r. ⌜ r ≡ noneAbove generation (now (stamp .entry)) ⌝ }
+{
+    let mut ok = true;
+    let mut i: usize = 0;
+    while i < 256 {
+        let s = stamp[i];
+        ok = ok & (s <= generation);
+        i += 1;
+    }
+    ok
+}
+
+// The same of a counter.
 pub fn stamps_hold(index: ColorIndex) -> bool
     ensures { λ r. ⌜ r ≡ noneAbove (index .generation) (index .stamp) ⌝ }
 {
-    let mut i: usize = 0;
-    while i < 256 {
-        if index.generation < index.stamp[i] {
-            return false;
-        }
-        i += 1;
-    }
-    true
+    let stamp = index.stamp;
+    none_above(&stamp, index.generation)
 }
 
 // The next generation; where the number rolls over it is 1 and the stamps are cleared.

@@ -1,2 +1,3 @@
 pub mod Counter
 pub mod CounterLaws
+pub mod Back

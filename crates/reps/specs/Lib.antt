@@ -1,3 +1,4 @@
 pub mod Reps
 pub mod Laws
 pub mod Turns
+pub mod Near

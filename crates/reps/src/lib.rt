@@ -1,8 +1,9 @@
 // Representatives of a block's colours; a colour is a packed number.
 ghost use mathlib.Core.Path.{_≡_};
+ghost use mathlib.Core.Bool.{false};
 ghost use Prim.Native.Nat.{ℕ, _<_, _≤_};
 ghost use lib.Dec.{leb};
-ghost use lib.ListN.{length, take};
+ghost use lib.ListN.{length, take, getD};
 ghost use Rattle.quant.specs.Quant.{gap};
 ghost use Rattle.reps.specs.Reps.{within, hitOf, reps, listed, Joined};
 
@@ -35,8 +36,25 @@ fn is_within(a: u64, b: u64, tol: u64) -> bool
     false
 }
 
-// The first of n colours that is within tolerance of e; n where none is.
-pub fn hit(list: &[u64; 64], n: usize, e: u64, tol: u64) -> usize
+// Whether some of n colours may be within tolerance of e, at most 7: no is certain.
+fn near(list: &[u64; 64], n: usize, e: u64, tol: u64) -> bool
+    requires { ⌜ (n ≤ 64) × (tol ≤ 7) ⌝ }
+    ensures { λ r. ⌜ (r ≡ false → (j : ℕ) → j < n → within tol e (getD (now (list .entry)) j 0) ≡ false) ⌝ }
+{
+    let base = e % 281474976710656 + tol * 4295032833 + 281474976710656;
+    let mut any = false;
+    let mut i: usize = 0;
+    while i < n {
+        let x = list[i];
+        let z = base - x % 281474976710656;
+        any = any | ((z % 65536 < 16) & (z / 65536 % 65536 < 16) & (z / 4294967296 % 65536 < 16));
+        i += 1;
+    }
+    any
+}
+
+// The first of n colours that is within tolerance of e, tried one by one; n where none is.
+fn scan(list: &[u64; 64], n: usize, e: u64, tol: u64) -> usize
     requires { ⌜ (n ≤ 64) × (length (now list) ≡ 64) ⌝ }
     ensures { λ r. ⌜ (r ≡ hitOf tol e (take n (now (list .entry)))) × (r ≤ n) ⌝ }
 {
@@ -48,6 +66,20 @@ pub fn hit(list: &[u64; 64], n: usize, e: u64, tol: u64) -> usize
         r += 1;
     }
     r
+}
+
+// The first of n colours that is within tolerance of e; n where none is.
+pub fn hit(list: &[u64; 64], n: usize, e: u64, tol: u64) -> usize
+    requires { ⌜ (n ≤ 64) × (length (now list) ≡ 64) ⌝ }
+    ensures { λ r. ⌜ (r ≡ hitOf tol e (take n (now (list .entry)))) × (r ≤ n) ⌝ }
+{
+    if tol <= 7 {
+        if near(list, n, e, tol) {
+            return scan(list, n, e, tol);
+        }
+        return n;
+    }
+    scan(list, n, e, tol)
 }
 
 // One more colour: a representative where none is within tolerance of it and there is room.

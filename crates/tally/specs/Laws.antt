@@ -18,7 +18,8 @@ use Rattle.census.specs.Census.{metBy, met, counts, tooMany, census, censusOf, 
 use Rattle.luma.specs.Luma.{coarse}
 use Rattle.luma.specs.Laws.{pre-check}
 use Rattle.tally.specs.declared.Tally.{Tally}
-use Rattle.tally.specs.Tally.{preCheck, indexAt, moved, indexOf, tallyOf}
+use Rattle.tally.specs.declared.Counted.{Counted}
+use Rattle.tally.specs.Tally.{preCheck, indexAt, movedTo, moved, indexOf, colorsTo, countedOf, tallyOf}
 
 -- ---- refusal 13
 
@@ -50,50 +51,81 @@ module _ (xs : List ℕ) (n : ℕ) where
 
 -- ---- how the answers come about
 
-module _ (c : ColorIndex) (xs : List ℕ) (n shift : ℕ) where
-  refused : (none : Census) → none ≡ census 0 [] [] → (after : ColorIndex) → tooMany (length (met xs n)) n ≡ true → after ≡ indexOf c xs n shift → _≡_ {A = Tally} (record { answer = 13; colors = none; index = after }) (tallyOf c xs n shift)
-  unfolding tallyOf
-  refused none z after h e = rw h (λ i. record { answer = 13; colors = z i; index = e i })
+module _ (xs : List ℕ) (n shift g g′ : ℕ) (e : g′ ≡ generationOf g) (found : Census) (v : found ≡ censusOf xs n) where
+  -- too many: the luma pre-check says whether the counter moves
+  pub many : (none : Census) → none ≡ census 0 [] [] → tooMany (found .distinct) n ≡ true → (limit : ℕ) → limit ≡ min (n / 2) 128 → (kept : Bool) → kept ≡ ltb limit (length (metBy (coarse shift) xs n))
+      → _≡_ {A = Counted} (record { answer = 13; kept = kept; generation = g′; colors = none }) (countedOf xs n shift g)
+  unfolding countedOf preCheck
+  many none z h limit l kept k =
+      let b : tooMany (length (met xs n)) n ≡ true = sym (many-same xs n) ∙ rw v at h in
+      let q : kept ≡ ltb (min (n / 2) 128) (length (metBy (coarse shift) xs n)) = k ∙ rw l in
+      rw b (λ i. record { answer = 13; kept = q i; generation = e i; colors = z i })
 
-  -- the luma pre-check refuses, and the counter stays
-  pub early : (none : Census) → none ≡ census 0 [] [] → (limit : ℕ) → limit ≡ min (n / 2) 128 → ltb limit (length (metBy (coarse shift) xs n)) ≡ true → _≡_ {A = Tally} (record { answer = 13; colors = none; index = c }) (tallyOf c xs n shift)
-  unfolding indexOf preCheck
-  early none z limit l h =
-      let b : ltb (min (n / 2) 128) (length (metBy (coarse shift) xs n)) ≡ true = rw l at h in
-      refused none z c (pre-check (coarse shift) xs n (ltb-true _ _ b)) (rw b refl)
+  -- not too many: then the pre-check refuses nothing
+  pub counted : tooMany (found .distinct) n ≡ false → _≡_ {A = Counted} (record { answer = 0; kept = false; generation = g′; colors = found }) (countedOf xs n shift g)
+  unfolding countedOf preCheck
+  counted h =
+      let b : tooMany (length (met xs n)) n ≡ false = sym (many-same xs n) ∙ rw v at h in
+      let w : found ≡ census (length (met xs n)) (met xs n) (counts xs n) = v ∙ all xs n (few xs n b) in
+      let q : false ≡ ltb (min (n / 2) 128) (length (metBy (coarse shift) xs n)) =
+      either (ltb (min (n / 2) 128) (length (metBy (coarse shift) xs n)))
+      (λ t. absurd (true-false (sym (pre-check (coarse shift) xs n (ltb-true _ _ t)) ∙ b)))
+      (λ t. sym t)
+      in
+      rw b (λ i. record { answer = 0; kept = q i; generation = e i; colors = w i })
 
-  -- else it moves on
-  pub late : (limit : ℕ) → limit ≡ min (n / 2) 128 → ltb limit (length (metBy (coarse shift) xs n)) ≡ false
-      → (ks es ss ss₁ : List ℕ) (g : ℕ) → g ≡ generationOf (c .generation) → ss₁ ≡ stampsOf (c .generation) (c .stamp)
-      → tab ks es ss ≡ tableTo (tab (c .keys) (c .entry) ss₁) g xs n → _≡_ {A = ColorIndex} (record { keys = ks; entry = es; stamp = ss; generation = g }) (indexOf c xs n shift)
-  unfolding indexOf preCheck moved
-  late limit l h ks es ss ss₁ g p q e = rw (← l, h) ((λ i. indexAt (e i) g) ∙ (λ i. indexAt (tableTo (tab (c .keys) (c .entry) (q i)) (p i) xs n) (p i)))
+-- the slots stay as many
+after-wide : (t : Table) (g key next : ℕ) → (length (afterOf t g key next .keys) ≡ length (t .keys)) × (length (afterOf t g key next .entry) ≡ length (t .entry)) × (length (afterOf t g key next .stamp) ≡ length (t .stamp))
+unfolding afterOf
+after-wide t g key next =
+    let s = slotOf (t .keys) (t .stamp) g key in
+    ⊎-elim (λ (e : getD (t .stamp) s 0 ≡ g). rw (eq-eqb _ _ e) (refl, refl, refl)) (λ (n : getD (t .stamp) s 0 ≡ g → ⊥). rw (ne-eqb _ _ n) (length-set (t .keys) s key, length-set (t .entry) s next, length-set (t .stamp) s g)) (eq-or-ne (getD (t .stamp) s 0) g)
 
-  module _ (after : ColorIndex) (w : after ≡ indexOf c xs n shift) (found : Census) (v : found ≡ censusOf xs n) where
-    pub many : (none : Census) → none ≡ census 0 [] [] → tooMany (found .distinct) n ≡ true → _≡_ {A = Tally} (record { answer = 13; colors = none; index = after }) (tallyOf c xs n shift)
-    many none z h = refused none z after (sym (many-same xs n) ∙ rw v at h) w
+table-wide : (t : Table) (g : ℕ) (xs : List ℕ) (n : ℕ) → (length (tableTo t g xs n .keys) ≡ length (t .keys)) × (length (tableTo t g xs n .entry) ≡ length (t .entry)) × (length (tableTo t g xs n .stamp) ≡ length (t .stamp))
+unfolding tableTo
+table-wide t g xs zero = (refl, refl, refl)
+table-wide t g xs (suc i) =
+    let w = table-wide t g xs i in
+    ⊎-elim (λ (l : 128 < length (met xs i)). rw (lt-ltb _ _ l) w)
+    (λ (l : length (met xs i) ≤ 128).
+    let a = after-wide (tableTo t g xs i) g (getD xs i 0) (length (met xs i)) in
+    rw (le-ltb _ _ l) (a .0 ∙ w .0, a .1 ∙ w .1, a .2 ∙ w .2))
+    (lt-or-le 128 (length (met xs i)))
 
-    pub counted : tooMany (found .distinct) n ≡ false → _≡_ {A = Tally} (record { answer = 0; colors = found; index = after }) (tallyOf c xs n shift)
-    unfolding tallyOf
-    counted h =
-        let b : tooMany (length (met xs n)) n ≡ false = sym (many-same xs n) ∙ rw v at h in
-        let e : found ≡ census (length (met xs n)) (met xs n) (counts xs n) = v ∙ all xs n (few xs n b) in
-        rw b (λ i. record { answer = 0; colors = e i; index = w i })
+pub moved-wide : (ks es ss ks′ es′ ss′ : List ℕ) (g : ℕ) (xs : List ℕ) (n : ℕ) → length ks ≡ 256 → length es ≡ 256 → length ss ≡ 256 → tab ks′ es′ ss′ ≡ movedTo ks es ss g xs n → (length ks′ ≡ 256) × (length es′ ≡ 256) × (length ss′ ≡ 256)
+moved-wide ks es ss ks′ es′ ss′ g xs n a b c e =
+    let w = table-wide (tab ks es (stampsOf g ss)) (generationOf g) xs n in
+    (ap (λ (t : Table). length (t .keys)) e ∙ w .0 ∙ a, ap (λ (t : Table). length (t .entry)) e ∙ w .1 ∙ b, ap (λ (t : Table). length (t .stamp)) e ∙ w .2 ∙ stamps-length g ss c)
+
+-- where the pre-check refuses, the count refuses
+pub kept-many : (xs : List ℕ) (n shift : ℕ) → preCheck xs n shift ≡ true → tooMany (length (met xs n)) n ≡ true
+unfolding preCheck
+kept-many xs n shift h = pre-check (coarse shift) xs n (ltb-true _ _ h)
+
+-- the counter kept, or moved on
+module _ (c : ColorIndex) (xs : List ℕ) (n shift : ℕ) (d : Counted) (v : d ≡ countedOf xs n shift (c .generation)) where
+  pub tally-kept : d .kept ≡ true → _≡_ {A = Tally} (record { answer = d .answer; colors = d .colors; index = c }) (tallyOf c xs n shift)
+  unfolding countedOf tallyOf indexOf
+  tally-kept h =
+      let k : preCheck xs n shift ≡ true = sym (ap (λ (z : Counted). z .kept) v) ∙ h in
+      rw k (λ i. record { answer = v i .answer; colors = v i .colors; index = c })
+
+  pub tally-moved : d .kept ≡ false → (ks es ss : List ℕ) → tab ks es ss ≡ movedTo (c .keys) (c .entry) (c .stamp) (c .generation) xs n
+      → _≡_ {A = Tally} (record { answer = d .answer; colors = d .colors; index = record { keys = ks; entry = es; stamp = ss; generation = d .generation } }) (tallyOf c xs n shift)
+  unfolding countedOf tallyOf indexOf moved
+  tally-moved h ks es ss e =
+      let k : preCheck xs n shift ≡ false = sym (ap (λ (z : Counted). z .kept) v) ∙ h in
+      rw k (λ i. record { answer = v i .answer; colors = v i .colors; index = indexAt (e i) (v i .generation) })
 
 -- at most 128 colours are answered
-pub tally-small : (c : ColorIndex) (xs : List ℕ) (n shift : ℕ) → tallyOf c xs n shift .colors .distinct ≤ 128
-unfolding tallyOf
-tally-small c xs n shift = either (tooMany (length (met xs n)) n) (λ e. rw e (omega arith)) (λ e. rw e (few xs n e))
+pub counted-small : (xs : List ℕ) (n : ℕ) → colorsTo xs n .distinct ≤ 128
+counted-small xs n = either (tooMany (length (met xs n)) n) (λ e. rw e (omega arith)) (λ e. rw e (few xs n e))
 
 -- ---- the counter
 
 -- after `clear` the table holds nothing
-pub ready : (c : ColorIndex) (ss : List ℕ) (g : ℕ) → length (c .keys) ≡ 256 → length (c .entry) ≡ 256 → length (c .stamp) ≡ 256 → c .generation < 2 ^ 32
-    → noneAbove (c .generation) (c .stamp) ≡ true → g ≡ generationOf (c .generation) → ss ≡ stampsOf (c .generation) (c .stamp) → Holds (tab (c .keys) (c .entry) ss) g []
-ready c ss g a b d l h p q =
-    rw (p, q)
-    (fresh (tab (c .keys) (c .entry) (stampsOf (c .generation) (c .stamp))) (generationOf (c .generation)) a b (stamps-length (c .generation) (c .stamp) d)
-    (cleared (c .generation) (c .stamp) l d (λ s k. none-above (c .generation) (c .stamp) h s)))
+pub ready : (ks es ss ss′ : List ℕ) (g g′ : ℕ) → length ks ≡ 256 → length es ≡ 256 → length ss ≡ 256 → g < 2 ^ 32 → noneAbove g ss ≡ true → g′ ≡ generationOf g → ss′ ≡ stampsOf g ss → Holds (tab ks es ss′) g′ []
+ready ks es ss ss′ g g′ a b d l h p q = rw (p, q) (fresh (tab ks es (stampsOf g ss)) (generationOf g) a b (stamps-length g ss d) (cleared g ss l d (λ s k. none-above g ss h s)))
 
 -- no stamp is above the generation after a look-up
 after-holds : (t : Table) (g key next : ℕ) → noneAbove g (t .stamp) ≡ true → noneAbove g (afterOf t g key next .stamp) ≡ true

@@ -1,20 +1,21 @@
--- `exports_analysis::velomitra_analyze_with`: the entry point's answer, laid.
-use mathlib.Core.Path.{_≡_, _∙_}
-use Rattle.analysis.specs.Analyze.{analyzeWithOf}
-use Rattle.flat.specs.Flat.{configOf, sourceOf, predictorOf}
-use Rattle.flatcounter.specs.Counter.{counterOf}
-use Rattle.exports_analysis.specs.Calls.{analyzeWithOut}
+-- `exports_analysis::velomitra_analyze_with`: refusals 1 to 4, then the colours fetched.
+use mathlib.Core.Path.{sym, _∙_}
+use Prim.Native.Nat.{ℕ}
+use lib.ListN.{length-replicate}
+use Rattle.model.specs.ConfigLaws.{config-bounds}
+use Rattle.model.specs.DomainLaws.{source-bounds}
+use Rattle.source.specs.Laws.{fetched}
+use Rattle.exports_analysis.specs.Calls.{Lent}
+use Rattle.exports_analysis.specs.CallLaws.{source-out, cells-out}
 use borrow.Author.Needs.{needs}
 use Rattle.exports_analysis.proofs.velomitra_analyze_with.Statement.{statement}
 use Rattle.exports_analysis.proofs.velomitra_analyze_with.Tie as tie
 use Rattle.exports_analysis.proofs.velomitra_analyze_with.Reads as reads
 use Rattle.exports_analysis.proofs.velomitra_analyze_with.Lts as lts
-use Rattle.analysis.proofs.analyze_with.Reads as analyze-with-reads
-use Rattle.exports_analysis.proofs.lay_analyzed.Reads as lay-analyzed-reads
+use Rattle.exports_analysis.proofs.analyze_cells.Reads as analyze-cells-reads
 use Rattle.flat.proofs.config_of.Reads as config-of-reads
-use Rattle.flat.proofs.predictor_of.Reads as predictor-of-reads
 use Rattle.flat.proofs.source_of.Reads as source-of-reads
-use Rattle.flatcounter.proofs.counter_of.Reads as counter-of-reads
+use Rattle.source.proofs.source_refusal.Reads as source-refusal-reads
 
 config-of-requires : tie.Need-config-of-requires
 config-of-requires c κs = search needs
@@ -22,17 +23,20 @@ config-of-requires c κs = search needs
 source-of-requires : tie.Need-source-of-requires
 source-of-requires c κs = search needs
 
-predictor-of-requires : tie.Need-predictor-of-requires
-predictor-of-requires c κs = search needs
+source-refusal-requires : tie.Need-source-refusal-requires
+source-refusal-requires c κs = length-replicate {A = ℕ} 1024 0
 
-counter-of-requires : tie.Need-counter-of-requires
-counter-of-requires c κs = search needs
+returns : tie.Need-returns
+returns c =
+    let s = c .before .before .before .before .before .before .before .before .before .before .before .before .before .before .args in
+    let l : Lent = record { keys = s .keys .now; entry = s .entry .now; stamp = s .stamp .now; block = s .block .now } in
+    source-out (s .luma .now) (s .cb .now) (s .cr .now) (s .config .now) (s .source .now) (s .predictor .now) l (c .before .before .before .before .config-of .result) (c .before .before .before .source-of .result) (c .before .before .before .before .config-of .ensures) (c .before .before .before .source-of .ensures) (s .tol) (c .before .source-refusal .result) (c .before .source-refusal .ensures .0) (c .if1 .taken)
 
-analyze-with-requires : tie.Need-analyze-with-requires
-analyze-with-requires c κs = search needs
-
-lay-analyzed-requires : tie.Need-lay-analyzed-requires
-lay-analyzed-requires c κs = search needs
+analyze-cells-requires : tie.Need-analyze-cells-requires
+analyze-cells-requires c κs =
+    let s = c .before .before .before .before .before .before .before .before .before .before .before .before .before .before .before .before .before .before .before .args in
+    let f = fetched (s .luma .now) (s .cb .now) (s .cr .now) (c .before .before .before .before .before .before .before .before .before .config-of .result) (c .before .before .before .before .before .before .before .before .source-of .result) (sym (c .before .before .before .before .before .before .source-refusal .ensures .0) ∙ c .before .before .before .before .before .if1 .left) in
+    (source-bounds (c .before .before .before .before .before .before .before .before .before .config-of .result .«chroma_idc») (c .before .before .before .before .before .before .before .before .source-of .result) (f .readable .source) .small, config-bounds (c .before .before .before .before .before .before .before .before .before .config-of .result) (f .readable .config) .luma)
 
 same-length : tie.Need-same-length
 same-length c = search needs
@@ -46,12 +50,11 @@ same-length-3 c = search needs
 same-length-4 : tie.Need-same-length-4
 same-length-4 c = search needs
 
-returns : tie.Need-returns
-unfolding analyzeWithOut
-returns c =
-    let a = c .before .before .before .before .before .before .before .before .before .before .before .before .before .before .before .before .before .before .before .before .before .before .before .before .before .before .before .before .before .before .args in
-    let e : c .before .before .before .before .before .before .before .before .before .before .before .before .before .analyze-with .result ≡ analyzeWithOf (a .luma .now) (a .cb .now) (a .cr .now) (configOf (a .config .now)) (sourceOf (a .source .now)) (predictorOf (a .predictor .now)) (counterOf (a .keys .now) (a .entry .now) (a .stamp .now)) (a .tol) = c .before .before .before .before .before .before .before .before .before .before .before .before .before .analyze-with .ensures ∙ rw (c .before .before .before .before .before .before .before .before .before .before .before .before .before .before .before .before .before .before .before .before .config-of .ensures, c .before .before .before .before .before .before .before .before .before .before .before .before .before .before .before .before .before .before .before .source-of .ensures, c .before .before .before .before .before .before .before .before .before .before .before .before .before .before .before .before .before .before .predictor-of .ensures, c .before .before .before .before .before .before .before .before .before .before .before .before .before .before .counter-of .ensures) in
-    rw (← e) (c .before .before .before .before .before .before .before .before .lay-analyzed .ensures)
+returns-2 : tie.Need-returns-2
+returns-2 c =
+    let s = c .before .before .before .before .before .before .before .before .before .before .before .before .before .before .before .before .before .before .before .before .before .before .before .before .before .before .before .before .args in
+    let l : Lent = record { keys = s .keys .now; entry = s .entry .now; stamp = s .stamp .now; block = s .block .now } in
+    c .before .before .before .before .before .before .before .before .analyze-cells .ensures ∙ cells-out (s .luma .now) (s .cb .now) (s .cr .now) (s .config .now) (s .source .now) (s .predictor .now) l (c .before .before .before .before .before .before .before .before .before .before .before .before .before .before .before .before .before .before .config-of .result) (c .before .before .before .before .before .before .before .before .before .before .before .before .before .before .before .before .before .source-of .result) (c .before .before .before .before .before .before .before .before .before .before .before .before .before .before .before .before .before .before .config-of .ensures) (c .before .before .before .before .before .before .before .before .before .before .before .before .before .before .before .before .before .source-of .ensures) _ (sym (c .before .before .before .before .before .before .before .before .before .before .before .before .before .before .before .source-refusal .ensures .0) ∙ c .before .before .before .before .before .before .before .before .before .before .before .before .before .before .if1 .left) (c .before .before .before .before .before .before .before .before .before .before .before .before .before .before .before .source-refusal .ensures .1) (s .tol)
 
 pub velomitra-analyze-with-spec : {M : Type 1} → statement M
 velomitra-analyze-with-spec =
@@ -59,12 +62,11 @@ velomitra-analyze-with-spec =
     (tie.spec
     config-of-requires
     source-of-requires
-    predictor-of-requires
-    counter-of-requires
-    analyze-with-requires
-    lay-analyzed-requires
+    source-refusal-requires
+    returns
+    analyze-cells-requires
     same-length
     same-length-2
     same-length-3
     same-length-4
-    returns)
+    returns-2)
