@@ -12,12 +12,12 @@ use Rattle.base.specs.Pick.{pick, either}
 use Rattle.h265.specs.Scan.{aboveAt}
 use Rattle.paths.specs.Cells.{indexLen, aboveLen}
 use Rattle.paths.specs.Stretch.{nextStretch}
-use Rattle.paths.specs.Plan.{Job, Table, tab, Point, infinite, swept, fresh, trail, runsOf, endCost, lastKind, planned}
+use Rattle.paths.specs.Plan.{Price, Job, job, Table, tab, Point, infinite, swept, fresh, trail, runsOf, endCost, lastKind, planned}
 use Rattle.paths.specs.Sunk.{done-sunk}
 use Rattle.relax.specs.JumpLaws.{Tables}
 use Rattle.walk.specs.Points.{Falls, Rising, runsIn}
 use Rattle.walk.specs.PointLaws.{trail-rising, runs-are}
-use Rattle.finish.specs.Found.{found, foundOf}
+use Rattle.cheapest.specs.Chart.{Charted}
 
 -- the code's infinity
 pub infinity-is : ofBits binary32 0x7f80_0000 ≡ infinite
@@ -27,18 +27,25 @@ infinity-is = refl
 -- ---- the table
 
 module _ (j : Job) (nh : j .n ≤ 1024) (cost : List Float) (pos : List ℕ) (st : List Bool) (e : tab cost pos st ≡ swept j (j .n * 2) fresh) where
-  pub search-falls : Falls pos
+  search-falls : Falls pos
   search-falls = record { lower = λ q k h. rw (ap (λ (t : Table). t .pos) e) (done-sunk j nh .lower q k h) }
 
-  pub search-is : (above : List ℕ) → ((i : ℕ) → i < j .n → getD above i 0 ≡ aboveAt (j .size) (j .xs) i)
-      → found (pick (lt (endCost j (tab cost pos st) true) (endCost j (tab cost pos st) false)) (endCost j (tab cost pos st) true) (endCost j (tab cost pos st) false))
-      (runsIn (j .xs) above 0 false (trail pos st (j .n) (j .n) (lt (endCost j (tab cost pos st) true) (endCost j (tab cost pos st) false)))) ≡ foundOf (planned j)
+  pub charted : (above : List ℕ) → ((i : ℕ) → i < j .n → getD above i 0 ≡ aboveAt (j .size) (j .xs) i) → Charted j above pos st (endCost j (tab cost pos st) false) (endCost j (tab cost pos st) true)
   unfolding planned lastKind
-  search-is above w =
+  charted above w =
       let k : Bool = lt (endCost j (tab cost pos st) true) (endCost j (tab cost pos st) false) in
       let r = trail-rising pos st search-falls (j .n) (j .n) (lt (endCost j (tab cost pos st) true) (endCost j (tab cost pos st) false)) (le-refl _) nh in
-      rw (runs-are (j .size) (j .n) (j .xs) above w 0 false (trail pos st (j .n) (j .n) (lt (endCost j (tab cost pos st) true) (endCost j (tab cost pos st) false))) (r .0) (r .1), ← e)
-      (either (lt (endCost j (tab cost pos st) true) (endCost j (tab cost pos st) false)) (λ t. rw t) (λ t. rw t))
+      record {
+        falls = search-falls;
+        path =
+            rw (runs-are (j .size) (j .n) (j .xs) above w 0 false (trail pos st (j .n) (j .n) (lt (endCost j (tab cost pos st) true) (endCost j (tab cost pos st) false))) (r .0) (r .1), ← e)
+            (either (lt (endCost j (tab cost pos st) true) (endCost j (tab cost pos st) false)) (λ t. rw t) (λ t. rw t));
+      }
+
+-- prices that agree give the same path
+pub charted-same : (size n most : ℕ) (xs : List ℕ) (v w : Price) (above pos : List ℕ) (st : List Bool) (e0 e1 : Float) → planned (job size n most xs v) ≡ planned (job size n most xs w)
+    → Charted (job size n most xs v) above pos st e0 e1 → Charted (job size n most xs w) above pos st e0 e1
+charted-same size n most xs v w above pos st e0 e1 e c = record { falls = c .falls; path = c .path ∙ e }
 
 -- ---- the tables of the cells
 

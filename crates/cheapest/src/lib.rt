@@ -1,11 +1,14 @@
 // The cheapest path of a block's cells: the tables of the cells and of the sums, the sweep over them, and the runs of the path at its end.
 ghost use mathlib.Core.Path.{_≡_};
+ghost use mathlib.Core.Bool.{false};
 ghost use Prim.Native.Nat.{ℕ, _+_, _*_, _≤_, _<_};
+ghost use lib.ListN.{length, replicate};
 ghost use Rattle.finish.specs.Found.{foundOf};
 ghost use Rattle.paths.specs.Plan.{job, priceOf, fresh, planned};
 ghost use Rattle.rates.specs.Rates.{shareRate};
 ghost use Rattle.relax.specs.JumpLaws.{Tables};
 ghost use Rattle.starts.specs.Starts.{termsOf, jobIn};
+ghost use Rattle.cheapest.specs.Chart.{Charted};
 use finish::Found;
 use finish::finish;
 use measure::fill_above;
@@ -40,8 +43,16 @@ fn terms_of(size: usize, n: usize, most: u32, m: RateModel) -> Terms
     }
 }
 
-// The cheapest path, by the tables of the cells and of the sums.
+// What the paths cost that end with an index run and with a copy-above run.
+pub struct Ends {
+    pub index: f32,
+    pub above: f32,
+}
+
+// The table of the paths, by the tables of the cells and of the sums.
 fn search(
+    pos: &mut [u16; 2050],
+    st: &mut [bool; 2050],
     xs: &[u8; 1024],
     above: &[u8; 1024],
     index_len: &[u16; 1026],
@@ -50,17 +61,16 @@ fn search(
     short: &[f32; 48],
     full: &[f32; 48],
     t: Terms,
-) -> Found
-    requires { ⌜ (t .n ≤ 1024) × (1 ≤ t .most) × (t .most ≤ 64) × Tables (t .size) (t .n) (now xs) (now above) (now «index_len») (now «above_len») (now next) ⌝ }
-    ensures { λ r. ⌜ r ≡ foundOf (planned (jobIn t (now (xs .entry)) (now (short .entry)) (now (full .entry)))) ⌝ }
+) -> Ends
+    requires { ⌜ (t .n ≤ 1024) × (1 ≤ t .most) × (t .most ≤ 64) × Tables (t .size) (t .n) (now xs) (now above) (now «index_len») (now «above_len») (now next)
+        × (now pos ≡ replicate 2050 0) × (now st ≡ replicate 2050 false) ⌝ }
+    ensures { λ r. ⌜ Charted (jobIn t (now (xs .entry)) (now (short .entry)) (now (full .entry))) (now (above .entry)) (now (pos .exit)) (now (st .exit)) (r .index) (r .above) ⌝ }
 {
     let mut cost = fresh_costs();
-    let mut pos = [0u16; 2050];
-    let mut st = [false; 2050];
     sweep(
         &mut cost,
-        &mut pos,
-        &mut st,
+        pos,
+        st,
         xs,
         above,
         index_len,
@@ -75,25 +85,33 @@ fn search(
         t.r1,
         t.share,
     );
-    let e0 = cost[t.n * 2] + t.r0;
-    let e1 = cost[t.n * 2 + 1] + t.r1;
-    finish(xs, above, &pos, &st, t.n, e0, e1)
+    Ends {
+        index: cost[t.n * 2] + t.r0,
+        above: cost[t.n * 2 + 1] + t.r1,
+    }
 }
 
-// The cheapest path of a block's cells.
-pub fn plan_cells(xs: &[u8; 1024], size: usize, most: u32, m: RateModel) -> Found
-    requires { ⌜ (size ≤ 32) × (1 ≤ most) × (most ≤ 64) ⌝ }
-    ensures { λ r. ⌜ r ≡ foundOf (planned (job size (size * size) most (now (xs .entry)) (priceOf m most))) ⌝ }
+// The cells above, and the table of the paths through a block's cells.
+pub fn chart(
+    xs: &[u8; 1024],
+    above: &mut [u8; 1024],
+    pos: &mut [u16; 2050],
+    st: &mut [bool; 2050],
+    size: usize,
+    most: u32,
+    m: RateModel,
+) -> Ends
+    requires { ⌜ (size ≤ 32) × (1 ≤ most) × (most ≤ 64) × (length (now above) ≡ 1024) × (now pos ≡ replicate 2050 0) × (now st ≡ replicate 2050 false) ⌝ }
+    ensures { λ r. ⌜ Charted (job size (size * size) most (now (xs .entry)) (priceOf m most)) (now (above .exit)) (now (pos .exit)) (now (st .exit)) (r .index) (r .above) ⌝ }
 {
     let n = size * size;
-    let mut above = [0u8; 1024];
-    fill_above(xs, &mut above, size);
+    fill_above(xs, above, size);
     let mut index_len = [0u16; 1026];
     let mut above_len = [0u16; 1026];
     let mut next = [0u16; 1026];
     fill_lengths(
         xs,
-        &above,
+        above,
         &mut index_len,
         &mut above_len,
         &mut next,
@@ -104,5 +122,28 @@ pub fn plan_cells(xs: &[u8; 1024], size: usize, most: u32, m: RateModel) -> Foun
     let short = sums.short;
     let full = sums.full;
     let t = terms_of(size, n, most, m);
-    search(xs, &above, &index_len, &above_len, &next, &short, &full, t)
+    search(
+        pos,
+        st,
+        xs,
+        above,
+        &index_len,
+        &above_len,
+        &next,
+        &short,
+        &full,
+        t,
+    )
+}
+
+// The cheapest path of a block's cells.
+pub fn plan_cells(xs: &[u8; 1024], size: usize, most: u32, m: RateModel) -> Found
+    requires { ⌜ (size ≤ 32) × (1 ≤ most) × (most ≤ 64) ⌝ }
+    ensures { λ r. ⌜ r ≡ foundOf (planned (job size (size * size) most (now (xs .entry)) (priceOf m most))) ⌝ }
+{
+    let mut above = [0u8; 1024];
+    let mut pos = [0u16; 2050];
+    let mut st = [false; 2050];
+    let e = chart(xs, &mut above, &mut pos, &mut st, size, most, m);
+    finish(xs, &above, &pos, &st, size * size, e.index, e.above)
 }

@@ -10,7 +10,7 @@ use Rattle.walk.specs.Points.{runsIn}
 use Rattle.finish.specs.declared.Found.{Found}
 use Rattle.finish.specs.Found.{laidRuns, found}
 
-length-runs : (xs above : List ℕ) (p : ℕ) (k : Bool) (es : List Point) → length (runsIn xs above p k es) ≡ length es
+pub length-runs : (xs above : List ℕ) (p : ℕ) (k : Bool) (es : List Point) → length (runsIn xs above p k es) ≡ length es
 unfolding runsIn
 length-runs xs above p k [] = refl
 length-runs xs above p k (e ∷ es) = ap suc (length-runs xs above (e .place) (e .kind) es)

@@ -1,2 +1,3 @@
 pub mod Found
 pub mod FoundLaws
+pub mod Front

@@ -19,7 +19,7 @@ pub struct Found {
 }
 
 // The cost of the end that is chosen.
-fn chosen(k: bool, e0: f32, e1: f32) -> f32
+pub fn chosen(k: bool, e0: f32, e1: f32) -> f32
     ensures { λ r. ⌜ r ≡ pick k e1 e0 ⌝ }
 {
     if k {

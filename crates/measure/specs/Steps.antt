@@ -9,10 +9,10 @@ use native.Mathlib.Omega.{arith}
 use lib.Arith.{digits-div}
 use lib.Dec.{eqb, leb, ltb}
 use lib.ListN.{getD, set}
-use borrow.Author.Tests.{eq-eqb, ne-eqb, eqb-true, eqb-false, lt-ltb, le-ltb}
+use borrow.Author.Tests.{eq-eqb, ne-eqb, eqb-true, eqb-false, lt-ltb, le-ltb, le-leb}
 use Rattle.base.specs.Cells.{laid, laid-same, laid-back}
 use Rattle.base.specs.Pick.{pick, either, lt-or-le}
-use Rattle.base.specs.Tests.{every}
+use Rattle.base.specs.Tests.{every, pick-test}
 use Rattle.h265.specs.Scan.{placeAbove, aboveAt}
 use Rattle.h265.specs.ScanLaws.{above-closed}
 use Rattle.paths.specs.Cells.{copies, lasts, indexLen, aboveLen}
@@ -143,8 +143,9 @@ module _ (size n : ℕ) (xs : List ℕ) (p after run copied stretch up : ℕ) (h
   back : p - 1 + 1 ≡ p
   back = omega arith
 
-  pub turn-here : every (leb size (p - 1) ∷ eqb (getD xs (p - 1) 0) up ∷ []) ≡ copies size xs (p - 1)
-  turn-here = copies-is size n xs (p - 1) up e
+  -- a later row
+  pub turn-here : size < p → eqb (getD xs (p - 1) 0) up ≡ copies size xs (p - 1)
+  turn-here l = let o : size ≤ p - 1 = omega arith in sym (pick-test (eqb (getD xs (p - 1) 0) up)) ∙ (rw (le-leb size (p - 1) o) at (copies-is size n xs (p - 1) up e))
 
   pub turn-run : pick (eqb (getD xs (p - 1) 0) after) (run + 1) 1 ≡ indexLen n xs (p - 1)
   turn-run = rw (i .run-is) (rw back at (index-step n xs (p - 1) after (omega arith) (λ l. rw back (i .after-is (rw back at l)))))

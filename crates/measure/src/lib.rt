@@ -1,12 +1,10 @@
 // What the planner measures of a block's cells, once: the cells above, how far runs go, and where the next stretch begins.
 ghost use mathlib.Core.Path.{_≡_};
-ghost use mathlib.Core.List.{[], _∷_};
 ghost use Prim.Native.Nat.{ℕ, _+_, _*_, _≤_, _<_};
-ghost use lib.Dec.{eqb, leb};
+ghost use lib.Dec.{eqb};
 ghost use lib.ListN.{getD};
 ghost use Rattle.base.specs.Cells.{laid};
 ghost use Rattle.base.specs.Pick.{pick};
-ghost use Rattle.base.specs.Tests.{every};
 ghost use Rattle.h265.specs.Scan.{aboveAt};
 ghost use Rattle.paths.specs.Cells.{indexLen, aboveLen};
 ghost use Rattle.paths.specs.Stretch.{nextStretch};
@@ -72,13 +70,6 @@ fn index_step(v: u8, next: u8, len: u16) -> u16
     1
 }
 
-// Whether cell p can be copied.
-fn can_copy(v: u8, up: u8, p: usize, size: usize) -> bool
-    ensures { λ r. ⌜ r ≡ every (leb size p ∷ eqb v up ∷ []) ⌝ }
-{
-    (size <= p) & (v == up)
-}
-
 // How many cells can be copied from a cell on, from the cell after it.
 fn above_step(here: bool, len: u16) -> u16
     requires { ⌜ len ≤ 1024 ⌝ }
@@ -103,7 +94,7 @@ fn stretch_step(below: bool, len: u16, p: u16, after: u16) -> u16
     p
 }
 
-// How far the index goes on from each cell, how many cells can be copied, and where the next stretch begins.
+// How far the index goes on from each cell, how many cells can be copied, and where the next stretch begins: the later rows, then row 0, where none can be copied.
 pub fn fill_lengths(
     xs: &[u8; 1024],
     above: &[u8; 1024],
@@ -123,6 +114,19 @@ pub fn fill_lengths(
     let mut run: u16 = 0;
     let mut copied: u16 = 0;
     let mut stretch = n as u16;
+    while size < p {
+        let q = p;
+        p -= 1;
+        let v = xs[p];
+        run = index_step(v, after, run);
+        index_len[p] = run;
+        after = v;
+        let here = v == above[p];
+        stretch = stretch_step(here, copied, q as u16, stretch);
+        next[q] = stretch;
+        copied = above_step(here, copied);
+        above_len[p] = copied;
+    }
     while 0 < p {
         let q = p;
         p -= 1;
@@ -130,11 +134,10 @@ pub fn fill_lengths(
         run = index_step(v, after, run);
         index_len[p] = run;
         after = v;
-        let here = can_copy(v, above[p], p, size);
-        stretch = stretch_step(here, copied, q as u16, stretch);
+        stretch = stretch_step(false, copied, q as u16, stretch);
         next[q] = stretch;
-        copied = above_step(here, copied);
-        above_len[p] = copied;
+        copied = 0;
+        above_len[p] = 0;
     }
     above_len[n] = 0;
 }

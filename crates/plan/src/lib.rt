@@ -51,7 +51,7 @@ fn refused(number: u8) -> Plan
 }
 
 // The greatest index of a palette of at most 64 entries; 0 also where it is empty.
-fn greatest(size: usize, escape: bool) -> u32
+pub fn greatest(size: usize, escape: bool) -> u32
     requires { ⌜ size ≤ 64 ⌝ }
     ensures { λ r. ⌜ (r ≡ size + bit escape - 1) × (r ≤ 64) ⌝ }
 {

@@ -1,4 +1,3 @@
-pub mod Front
 pub mod Told
 pub mod Planning
 pub mod Figures

@@ -30,7 +30,7 @@ use Rattle.plan.specs.AnswerLaws.{most-in}
 use Rattle.covers.specs.Reach.{Fair, reached-upto, done-kept, cost-upto}
 use Rattle.covers.specs.Covers.{chosen-reached, planned-rules, planned-replay, total-finite}
 use Rattle.covers.specs.Least.{entryAt, best, least}
-use Rattle.planned.specs.Front.{front-runs}
+use Rattle.finish.specs.Front.{front-runs}
 use Rattle.planned.specs.Told.{answer-is, runs-told}
 
 -- n, the block's indices along the scan, the planned runs, and the table that the sweep leaves

@@ -18,7 +18,7 @@ use Rattle.plan.specs.Answer.{runsFor, answerFor, planWith, planOf}
 use Rattle.plan.specs.AnswerLaws.{block-is}
 use Rattle.plan.specs.declared.Plan.{Plan}
 use Rattle.planlist.specs.After.{countOf}
-use Rattle.planned.specs.Front.{front-runs}
+use Rattle.finish.specs.Front.{front-runs}
 use Rattle.planned.specs.Planning.{plan-rules, plan-keeps, plan-alphabets, plan-count}
 use Rattle.planned.specs.Planning as P
 use Rattle.rates.specs.Rates.{ratesIn}

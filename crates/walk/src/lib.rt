@@ -52,7 +52,14 @@ pub fn lay(
 }
 
 // The run from p, after a run of kind pk, up to q, of kind k.
-fn run_to(xs: &[u8; 1024], above: &[u8; 1024], p: usize, pk: bool, q: usize, k: bool) -> PaletteRun
+pub fn run_to(
+    xs: &[u8; 1024],
+    above: &[u8; 1024],
+    p: usize,
+    pk: bool,
+    q: usize,
+    k: bool,
+) -> PaletteRun
     requires { ⌜ (p < q) × (q ≤ 1024) ⌝ }
     ensures { λ r. ⌜ r ≡ runIn (now (xs .entry)) (now (above .entry)) p pk q k ⌝ }
 {

@@ -4,58 +4,28 @@ use Prim.Native.Nat.{ℕ, suc, _+_, _-_, _*_, _≤_, _<_}
 use native.Mathlib.Omega.{arith}
 use lib.ListN.{getD, length, replicate, length-replicate}
 use native.Mathlib.Nat.{mul-le-mul}
-use Rattle.paths.specs.Same.{planned-same}
-use Rattle.sweep.specs.Prices.{prices-same}
 use Rattle.finish.specs.Found.{foundOf}
-use Rattle.cheapest.specs.SearchLaws.{each-laid, tables-of}
 use borrow.Author.Needs.{needs}
 use Rattle.cheapest.proofs.plan_cells.Statement.{statement}
 use Rattle.cheapest.proofs.plan_cells.Tie as tie
 use Rattle.cheapest.proofs.plan_cells.Reads as reads
 use Rattle.cheapest.proofs.plan_cells.Lts as lts
-use Rattle.cheapest.proofs.search.Reads as search-reads
-use Rattle.cheapest.proofs.terms_of.Reads as terms-of-reads
-use Rattle.measure.proofs.fill_above.Reads as fill-above-reads
-use Rattle.measure.proofs.fill_lengths.Reads as fill-lengths-reads
-use Rattle.sums.proofs.run_sums.Reads as run-sums-reads
+use Rattle.cheapest.proofs.chart.Reads as chart-reads
+use Rattle.finish.proofs.finish.Reads as finish-reads
 
-mul-n : tie.Need-mul-n
-mul-n c = let h : c .args .size * c .args .size ≤ 32 * 32 = mul-le-mul (c .pre .0) (c .pre .0) in omega arith
+chart-requires : tie.Need-chart-requires
+chart-requires c κs = (c .before .before .before .pre .0, c .before .before .before .pre .1, c .before .before .before .pre .2, length-replicate {A = ℕ} 1024 0, refl, refl)
 
-fill-above-requires : tie.Need-fill-above-requires
-fill-above-requires c κs = search needs
+mul-finish : tie.Need-mul-finish
+mul-finish c = let h : c .before .before .before .before .before .before .before .args .size * c .before .before .before .before .before .before .before .args .size ≤ 32 * 32 = mul-le-mul (c .before .before .before .before .before .before .before .pre .0) (c .before .before .before .before .before .before .before .pre .0) in omega arith
 
-fill-lengths-requires : tie.Need-fill-lengths-requires
-fill-lengths-requires c κs =
-    let h : c .before .before .before .before .before .before .args .size * c .before .before .before .before .before .before .args .size ≤ 32 * 32 = mul-le-mul (c .before .before .before .before .before .before .pre .0) (c .before .before .before .before .before .before .pre .0) in
-    (omega arith, λ i l. each-laid _ _ _ 0 _ (c .before .before .before .before .fill-above .ensures) (rw length-replicate (omega arith)) i (omega arith) (omega arith))
-
-run-sums-requires : tie.Need-run-sums-requires
-run-sums-requires c κs = search needs
-
-terms-of-requires : tie.Need-terms-of-requires
-terms-of-requires c κs = search needs
-
-search-requires : tie.Need-search-requires
-search-requires c κs =
-    let h : c .before .before .before .before .before .before .before .before .before .before .before .before .before .before .before .before .before .args .size * c .before .before .before .before .before .before .before .before .before .before .before .before .before .before .before .before .before .args .size ≤ 32 * 32 = mul-le-mul (c .before .before .before .before .before .before .before .before .before .before .before .before .before .before .before .before .before .pre .0) (c .before .before .before .before .before .before .before .before .before .before .before .before .before .before .before .before .before .pre .0) in
-    let f = c .before .before .before .before .before .before .before .before .before .before .fill-lengths .ensures in
-    rw (c .before .before .before .before .before .before .terms-of .ensures) (omega arith, c .before .before .before .before .before .before .before .before .before .before .before .before .before .before .before .before .before .pre .1, c .before .before .before .before .before .before .before .before .before .before .before .before .before .before .before .before .before .pre .2, tables-of _ _ _ _ _ _ _ _ _ _ _ (omega arith) (length-replicate {A = ℕ} 1024 0) (length-replicate {A = ℕ} 1026 0) (length-replicate {A = ℕ} 1026 0) (length-replicate {A = ℕ} 1026 0) (c .before .before .before .before .before .before .before .before .before .before .before .before .before .before .before .fill-above .ensures) (f .0) (f .1) (f .2))
+finish-requires : tie.Need-finish-requires
+finish-requires c κs =
+    let h : c .before .before .before .before .before .before .before .args .size * c .before .before .before .before .before .before .before .args .size ≤ 32 * 32 = mul-le-mul (c .before .before .before .before .before .before .before .pre .0) (c .before .before .before .before .before .before .before .pre .0) in
+    (omega arith, c .before .before .before .chart .ensures .falls)
 
 returns : tie.Need-returns
-returns c =
-    let h : c .before .before .before .before .before .before .before .before .before .before .before .before .before .before .before .before .before .before .args .size * c .before .before .before .before .before .before .before .before .before .before .before .before .before .before .before .before .before .before .args .size ≤ 32 * 32 = mul-le-mul (c .before .before .before .before .before .before .before .before .before .before .before .before .before .before .before .before .before .before .pre .0) (c .before .before .before .before .before .before .before .before .before .before .before .before .before .before .before .before .before .before .pre .0) in
-    let e = rw (c .before .before .before .before .before .before .before .terms-of .ensures) at (c .search .ensures) in
-    e ∙ ap foundOf (planned-same _ _ _ _ _ _ (prices-same _ _ _ _ _ _ (omega arith) (c .before .before .before .before .before .before .before .before .before .before .run-sums .ensures) refl))
+returns c = c .finish .ensures ∙ ap foundOf (c .before .before .before .before .chart .ensures .path)
 
 pub plan-cells-spec : {M : Type 1} → statement M
-plan-cells-spec =
-    tie.close
-    (tie.spec
-    mul-n
-    fill-above-requires
-    fill-lengths-requires
-    run-sums-requires
-    terms-of-requires
-    search-requires
-    returns)
+plan-cells-spec = tie.close (tie.spec chart-requires mul-finish finish-requires returns)
