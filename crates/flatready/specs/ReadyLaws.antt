@@ -2,14 +2,15 @@
 use mathlib.Core.Path.{_≡_, refl, ap, sym, _∙_}
 use mathlib.Core.Bool.{Bool, true, false, _&&_}
 use mathlib.Core.List.{List, [], _∷_}
+use mathlib.Core.Logic.{⊎-elim}
 use Prim.Native.Nat.{ℕ, _+_, _*_, _-_, _≤_, _<_, min}
-use native.Mathlib.Nat.{min-eq-left, mul-le-mul}
+use native.Mathlib.Nat.{le-trans, min-eq-left, mul-le-mul}
 use native.Mathlib.Omega.{arith}
 use borrow.Author.Tests.{leb-true, le-leb, eq-eqb, ne-eqb, eqb-true}
 use lib.Dec.{eqb, leb}
 use lib.ListN.{length, take, drop, getD, length-replicate}
 use Rattle.base.specs.Cells.{laid-length}
-use Rattle.base.specs.Pick.{pick, either, true-false}
+use Rattle.base.specs.Pick.{pick, either, true-false, lt-or-le}
 use Rattle.base.specs.Tests.{every, any, both, ands, ands-every, and-pick, upTo, up-to-at, at-up-to}
 use Rattle.h265.specs.Reuse.{trues}
 use Rattle.h265.specs.ReuseLaws.{trues-at, trues-end}
@@ -20,6 +21,7 @@ use Rattle.model.specs.Domain.{most, mostChroma, colorIn, noColor, predictorIn}
 use Rattle.model.specs.Whole.{blockSizeIn, maxIndex, levelIn, levelsIn, noLevels, cellHolds, holds}
 use Rattle.predictor.specs.Update.{updateRefusal}
 use Rattle.whole.specs.Parts.{sizeHolds, formatAre, frameHolds, holds-rest, holds-bounds}
+use Rattle.flatready.specs.Reach.{Under}
 use Rattle.flatready.specs.Ready.{framedOf, levelMost, BlockReady, Ready}
 
 -- tests joined in a row are those joined in groups
@@ -89,35 +91,55 @@ module _ (b : List ℕ) (n : ℕ) (is : n ≡ number b 5) (some : 1 ≤ n) (few 
   unfolding blockOf
   index-at i h l = each-at 0 0 1024 (λ (j : ℕ). byte (number b (336 + j))) i h ∙ min-eq-left (omega arith)
 
-  -- every index is an entry's
-  pub cells-plain : (cells : ℕ) → cells ≤ 1024 → upTo cells (λ i. leb (number b (336 + i)) (n - 1)) ≡ true → upTo cells (cellHolds (blockOf b)) ≡ true
+  -- an index of an entry
+  cell-plain : (i : ℕ) → i < 1024 → number b (336 + i) ≤ n - 1 → cellHolds (blockOf b) i ≡ true
   unfolding blockOf cellHolds maxIndex
-  cells-plain cells h e =
-      at-up-to _ cells (λ i k.
-      let l : number b (336 + i) ≤ n - 1 = leb-true _ _ (up-to-at _ cells e i k) in
-      let z : getD (blockOf b .indices) i 0 ≡ number b (336 + i) = index-at i (omega arith) (omega arith) in
-      rw (z, le-leb (number b (336 + i)) (number b 5 + bit (eqb (number b 8) 1) - 1) (omega arith), ne-eqb (number b (336 + i)) (number b 5) (λ w. omega arith)))
+  cell-plain i h l =
+      let z : getD (blockOf b .indices) i 0 ≡ number b (336 + i) = index-at i h (omega arith) in
+      rw (z, le-leb (number b (336 + i)) (number b 5 + bit (eqb (number b 8) 1) - 1) (omega arith), ne-eqb (number b (336 + i)) (number b 5) (λ w. omega arith))
 
-  -- escapes are on, and every level is in range of one depth
-  module _ (same : number b 2 ≡ number b 3) (on : number b 8 ≡ 1) (cells m : ℕ) (low : m ≤ levelMost b) (levels : upTo (3 * cells) (λ i. leb (number b (1360 + i)) m) ≡ true) where
-    levels-fit : (i : ℕ) → i < cells → i < 1024 → levelsIn (blockOf b) (getD (blockOf b .escapes) i noLevels) ≡ true
+  pub band-plain : (i r : ℕ) → i + 128 ≤ 1024 → Under b (336 + i) 128 (n - 1) r → r ≡ 0 → (k : ℕ) → i ≤ k → k < i + 128 → cellHolds (blockOf b) k ≡ true
+  band-plain i r h u e k o t =
+      let z : 336 + i + (k - i) ≡ 336 + k = omega arith in
+      let l : number b (336 + k) ≤ n - 1 + r = rw z at (u (k - i) (omega arith)) in
+      cell-plain k (omega arith) (omega arith)
+
+  -- escapes are on, and levels are in range of one depth
+  module _ (same : number b 2 ≡ number b 3) (on : number b 8 ≡ 1) (m : ℕ) (low : m ≤ levelMost b) where
+    levels-fit : (i : ℕ) → i < 1024 → number b (1360 + 3 * i) ≤ m → number b (1360 + 3 * i + 1) ≤ m → number b (1360 + 3 * i + 2) ≤ m → levelsIn (blockOf b) (getD (blockOf b .escapes) i noLevels) ≡ true
     unfolding blockOf levelsIn levelIn levelsAt
-    levels-fit i h k =
-        rw (each-at noLevels noLevels 1024 (λ (j : ℕ). levelsAt b (1360 + 3 * j)) i k, ← same, first b 1360 cells m (levelMost b) low levels i h, second b 1360 cells m (levelMost b) low levels i h, third b 1360 cells m (levelMost b) low levels i h)
+    levels-fit i k y u v =
+        let a : leb (number b (1360 + 3 * i)) (levelMost b) ≡ true = le-leb _ _ (le-trans y low) in
+        let c : leb (number b (1360 + 3 * i + 1)) (levelMost b) ≡ true = le-leb _ _ (le-trans u low) in
+        let d : leb (number b (1360 + 3 * i + 2)) (levelMost b) ≡ true = le-leb _ _ (le-trans v low) in
+        rw (each-at noLevels noLevels 1024 (λ (j : ℕ). levelsAt b (1360 + 3 * j)) i k, ← same, a, c, d)
         (either (eqb (byte (number b 1)) 0) (λ e. rw e) (λ e. rw e))
 
     greatest : (i : ℕ) → number b (336 + i) ≤ n → leb (number b (336 + i)) (blockOf b .«palette_size» + bit (blockOf b .«escape_present») - 1) ≡ true
     unfolding blockOf
     greatest i l = rw on (le-leb (number b (336 + i)) (number b 5 + 1 - 1) (omega arith))
 
-    pub cells-escaped : cells ≤ 1024 → upTo cells (λ i. leb (number b (336 + i)) n) ≡ true → upTo cells (cellHolds (blockOf b)) ≡ true
+    cell-escaped : (i : ℕ) → i < 1024 → number b (336 + i) ≤ n → levelsIn (blockOf b) (getD (blockOf b .escapes) i noLevels) ≡ true → cellHolds (blockOf b) i ≡ true
     unfolding cellHolds maxIndex
-    cells-escaped h e =
-        at-up-to _ cells (λ i k.
-        let l : number b (336 + i) ≤ n = leb-true _ _ (up-to-at _ cells e i k) in
-        let z : getD (blockOf b .indices) i 0 ≡ number b (336 + i) = index-at i (omega arith) l in
-        let t = levels-fit i k (omega arith) in
-        rw (z, greatest i l, t) (either (eqb (number b (336 + i)) (blockOf b .«palette_size»)) (λ w. rw w) (λ w. rw w)))
+    cell-escaped i h l t =
+        let z : getD (blockOf b .indices) i 0 ≡ number b (336 + i) = index-at i h l in
+        rw (z, greatest i l, t) (either (eqb (number b (336 + i)) (blockOf b .«palette_size»)) (λ w. rw w) (λ w. rw w))
+
+    pub band-escaped : (i r w : ℕ) → i + 128 ≤ 1024 → Under b (336 + i) 128 (n - 1) r → r ≡ 1 → Under b (1360 + 3 * i) 384 0 w → w ≤ m → (k : ℕ) → i ≤ k → k < i + 128 → cellHolds (blockOf b) k ≡ true
+    band-escaped i r w h u e v f k o t =
+        let z : 336 + i + (k - i) ≡ 336 + k = omega arith in
+        let l : number b (336 + k) ≤ n - 1 + r = rw z at (u (k - i) (omega arith)) in
+        let z₀ : 1360 + 3 * i + 3 * (k - i) ≡ 1360 + 3 * k = omega arith in
+        let z₁ : 1360 + 3 * i + (3 * (k - i) + 1) ≡ 1360 + 3 * k + 1 = omega arith in
+        let z₂ : 1360 + 3 * i + (3 * (k - i) + 2) ≡ 1360 + 3 * k + 2 = omega arith in
+        let y₀ : number b (1360 + 3 * k) ≤ 0 + w = rw z₀ at (v (3 * (k - i)) (omega arith)) in
+        let y₁ : number b (1360 + 3 * k + 1) ≤ 0 + w = rw z₁ at (v (3 * (k - i) + 1) (omega arith)) in
+        let y₂ : number b (1360 + 3 * k + 2) ≤ 0 + w = rw z₂ at (v (3 * (k - i) + 2) (omega arith)) in
+        cell-escaped k (omega arith) (omega arith) (levels-fit k (omega arith) (omega arith) (omega arith) (omega arith))
+
+-- one band more
+pub band-next : (f : ℕ → Bool) (g : ℕ) → ((k : ℕ) → k < 128 * g → f k ≡ true) → ((k : ℕ) → 128 * g ≤ k → k < 128 * g + 128 → f k ≡ true) → (k : ℕ) → k < 128 * (g + 1) → f k ≡ true
+band-next f g h o k l = ⊎-elim (λ (z : k < 128 * g). h k z) (λ (z : 128 * g ≤ k). o k z (omega arith)) (lt-or-le k (128 * g))
 
 -- ---- the block
 

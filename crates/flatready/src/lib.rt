@@ -136,20 +136,36 @@ fn level_most(list: &[u16]) -> u16
     32767
 }
 
-// Whether all indices are of entries, or else escapes are on and every level is in range.
-fn cells_ready(list: &[u16], cells: usize, n: u16) -> bool
-    requires { ⌜ (4432 ≤ length (now list)) × (cells ≤ 1024) × (1 ≤ n) × (n ≤ 64) × (n ≡ number (now list) 5) × (number (now list) 2 ≡ number (now list) 3) ⌝ }
-    ensures { λ r. ⌜ (r ≡ true → upTo cells (cellHolds (blockOf (now (list .entry)))) ≡ true) ⌝ }
+// Whether the indices of 128 cells from i on are of entries, or else escapes are on and the levels of these cells at most m.
+fn band_ready(list: &[u16], i: usize, n: u16, m: u16) -> bool
+    requires { ⌜ (4432 ≤ length (now list)) × (i + 128 ≤ 1024) × (1 ≤ n) × (n ≤ 64) × (n ≡ number (now list) 5) × (number (now list) 2 ≡ number (now list) 3) × (m ≤ levelMost (now list)) ⌝ }
+    ensures { λ r. ⌜ (r ≡ true → (k : ℕ) → i ≤ k → k < i + 128 → cellHolds (blockOf (now (list .entry))) k ≡ true) ⌝ }
 {
-    let past = reach(list, 336, (cells + 3) / 4, n - 1);
+    let past = reach(list, 336 + i, 32, n - 1);
     if past == 0 {
         return true;
     }
     if (past == 1) & (list[8] == 1) {
-        let m = level_most(list);
-        return reach(list, 1360, (3 * cells + 3) / 4, 0) <= m;
+        return reach(list, 1360 + 3 * i, 96, 0) <= m;
     }
     false
+}
+
+// Whether all cells are so, band by band.
+fn cells_ready(list: &[u16], cells: usize, n: u16) -> bool
+    requires { ⌜ (4432 ≤ length (now list)) × (cells ≤ 1024) × (1 ≤ n) × (n ≤ 64) × (n ≡ number (now list) 5) × (number (now list) 2 ≡ number (now list) 3) ⌝ }
+    ensures { λ r. ⌜ (r ≡ true → upTo cells (cellHolds (blockOf (now (list .entry)))) ≡ true) ⌝ }
+{
+    let m = level_most(list);
+    let mut g: usize = 0;
+    while 128 * g < cells {
+        if band_ready(list, 128 * g, n, m) {
+            g += 1;
+        } else {
+            return false;
+        }
+    }
+    true
 }
 
 // Yes only where the list is whole and the block holds together; it has entries, a format with chroma and one depth.

@@ -1,80 +1,72 @@
--- `flatready::cells_ready`: every index an entry's, or levels all in range.
-use mathlib.Core.Path.{_≡_, sym, _∙_}
-use Prim.Native.Nat.{_+_, _*_, _-_, _/_, _≤_}
+-- `flatready::cells_ready`. The loop's invariant: the cells of the bands passed hold.
+use mathlib.Core.Path.{_≡_, sym}
+use mathlib.Core.Bool.{true}
+use Prim.Native.Nat.{ℕ, _*_, _-_, _<_, _≤_}
 use native.Mathlib.Omega.{arith}
-use borrow.Author.Tests.{leb-true, eqb-true}
-use lib.Dec.{eqb}
 use Rattle.base.specs.Pick.{true-false}
-use Rattle.base.specs.Tests.{both, and-pick}
-use Rattle.flat.specs.Flat.{number}
-use Rattle.flatready.specs.Reach.{under-up-to}
-use Rattle.flatready.specs.ReadyLaws.{cells-plain, cells-escaped}
+use Rattle.base.specs.Tests.{at-up-to}
+use Rattle.flat.specs.Flat.{blockOf}
+use Rattle.model.specs.Whole.{cellHolds}
+use Rattle.flatready.specs.ReadyLaws.{band-next}
 use borrow.Author.Needs.{needs}
 use Rattle.flatready.proofs.cells_ready.Statement.{statement}
 use Rattle.flatready.proofs.cells_ready.Tie as tie
 use Rattle.flatready.proofs.cells_ready.Reads as reads
 use Rattle.flatready.proofs.cells_ready.Lts as lts
+use Rattle.flatready.proofs.band_ready.Reads as band-ready-reads
 use Rattle.flatready.proofs.level_most.Reads as level-most-reads
-use Rattle.flatready.proofs.reach.Reads as reach-reads
 
-add-reach : tie.Need-add-reach
-add-reach c = search needs
+abbrev Inv-loop : tie.InvT-loop
+Inv-loop list cells n m g₀ g = (g ≤ 8) × ((k : ℕ) → k < 128 * g → cellHolds (blockOf list) k ≡ true)
 
-sub-reach : tie.Need-sub-reach
-sub-reach c = search needs
+abbrev μ-loop : tie.MeasureT-loop
+μ-loop list cells n m g₀ g = 8 - g
 
-reach-requires : tie.Need-reach-requires
-reach-requires c κs = search needs
+level-most-requires : tie.Need-level-most-requires Inv-loop μ-loop
+level-most-requires c κs = omega arith
 
-returns : tie.Need-returns
-returns c =
-    λ e.
-    let l = c .before .before .before .args .list .now in
-    let n = c .before .before .before .args .n in
-    let k = c .before .before .before .args .cells in
-    cells-plain l n (c .before .before .before .pre .4) (c .before .before .before .pre .2) (c .before .before .before .pre .3) k (c .before .before .before .pre .1) (under-up-to l 336 k (4 * ((k + 3) / 4)) (n - 1) (c .before .reach .result) (n - 1) (c .before .reach .ensures) (omega arith) (omega arith))
+loop-holds : tie.Need-loop-holds Inv-loop μ-loop
+loop-holds c = (omega arith, λ k h. absurd (omega arith))
 
-shared-slice-read-if2 : tie.Need-shared-slice-read-if2
-shared-slice-read-if2 c = search needs
+mul-loop : tie.Need-mul-loop Inv-loop μ-loop
+mul-loop c = omega arith
 
-level-most-requires : tie.Need-level-most-requires
-level-most-requires c κs = search needs
+mul-band-ready : tie.Need-mul-band-ready Inv-loop μ-loop
+mul-band-ready c = omega arith
 
-mul-reach : tie.Need-mul-reach
-mul-reach c = search needs
+band-ready-requires : tie.Need-band-ready-requires Inv-loop μ-loop
+band-ready-requires c κs = (c .before .before .before .before .pre .0, omega arith, c .before .before .before .before .pre .2, c .before .before .before .before .pre .3, c .before .before .before .before .pre .4, c .before .before .before .before .pre .5, c .before .before .level-most .ensures)
 
-add-reach-2 : tie.Need-add-reach-2
-add-reach-2 c = search needs
+add-g : tie.Need-add-g Inv-loop μ-loop
+add-g c = omega arith
 
-reach-requires-2 : tie.Need-reach-requires-2
-reach-requires-2 c κs = search needs
+loop-less : tie.Need-loop-less Inv-loop μ-loop
+loop-less c = omega arith
 
-returns-2 : tie.Need-returns-2
-returns-2 c =
-    λ e.
-    let l = c .before .before .before .before .before .before .before .args .list .now in
-    let n = c .before .before .before .before .before .before .before .args .n in
-    let k = c .before .before .before .before .before .before .before .args .cells in
-    let t = both (eqb (c .before .before .before .before .before .reach .result) 1) (eqb (number l 8) 1) (sym (and-pick (eqb (c .before .before .before .before .before .reach .result) 1) (eqb (number l 8) 1)) ∙ c .before .before .if2 .taken) in
-    let one : c .before .before .before .before .before .reach .result ≡ 1 = eqb-true _ _ (t .0) in
-    let m : c .reach2 .result ≤ c .before .level-most .result = leb-true _ _ e in
-    cells-escaped l n (c .before .before .before .before .before .before .before .pre .4) (c .before .before .before .before .before .before .before .pre .2) (c .before .before .before .before .before .before .before .pre .3) (c .before .before .before .before .before .before .before .pre .5) (eqb-true _ _ (t .1)) k (c .before .level-most .result) (c .before .level-most .ensures) (under-up-to l 1360 (3 * k) (4 * ((3 * k + 3) / 4)) 0 (c .reach2 .result) (c .before .level-most .result) (c .reach2 .ensures) (omega arith) (omega arith)) (c .before .before .before .before .before .before .before .pre .1) (under-up-to l 336 k (4 * ((k + 3) / 4)) (n - 1) (c .before .before .before .before .before .reach .result) n (c .before .before .before .before .before .reach .ensures) (omega arith) (omega (arith, c .before .before .before .before .before .before .before .pre .2)))
+loop-again : tie.Need-loop-again Inv-loop μ-loop
+loop-again c =
+    let l = c .before .before .before .loop in
+    (omega arith, band-next (cellHolds (blockOf (c .before .before .before .before .before .before .args .list .now))) (l .g) (l .inv .1) (c .before .band-ready .ensures (c .if1 .taken)))
 
-returns-3 : tie.Need-returns-3
-returns-3 c = λ e. absurd (true-false (sym e))
+returns : tie.Need-returns Inv-loop μ-loop
+returns c = λ e. absurd (true-false (sym e))
+
+returns-2 : tie.Need-returns-2 Inv-loop μ-loop
+returns-2 c = λ e. at-up-to (cellHolds (blockOf (c .before .before .before .before .args .list .now))) (c .before .before .before .before .args .cells) (λ i h. c .before .loop .inv .1 i (omega arith))
 
 pub cells-ready-spec : {M : Type 1} → statement M
 cells-ready-spec =
     tie.close
     (tie.spec
-    add-reach
-    sub-reach
-    reach-requires
-    returns
-    shared-slice-read-if2
+    Inv-loop
+    μ-loop
     level-most-requires
-    mul-reach
-    add-reach-2
-    reach-requires-2
-    returns-2
-    returns-3)
+    loop-holds
+    mul-loop
+    mul-band-ready
+    band-ready-requires
+    add-g
+    loop-less
+    loop-again
+    returns
+    returns-2)
