@@ -2,20 +2,26 @@
 use mathlib.Core.Path.{_≡_, refl, ap, sym, _∙_}
 use mathlib.Core.Bool.{Bool, true, false}
 use mathlib.Core.List.{List, [], _∷_, _++_}
+use mathlib.Core.Logic.{⊎-elim}
 use Prim.Native.Nat.{ℕ, zero, suc, _+_, _*_, _-_, _≤_, _<_}
+use native.Mathlib.Nat.{min-eq-left, min-eq-right}
 use native.Mathlib.Omega.{arith}
-use lib.ListN.{length, take, drop, getD, set, replicate, length-replicate}
-use lib.Seq.{sets, sets-eq, take-at, length-take-le}
+use lib.Dec.{eqb}
+use lib.ListN.{length, take, drop, getD, set, replicate, length-replicate, length-drop}
+use lib.Seq.{sets, sets-eq, take-at, length-take-le, getD-take, getD-drop, ext-getD}
 use Rattle.base.specs.Cells.{laid-length}
 use Rattle.base.specs.Counted.{read, end}
 use Rattle.base.specs.Laid.{Laid}
-use Rattle.base.specs.Pick.{pick}
+use Rattle.base.specs.Pick.{pick, lt-or-le}
 use Rattle.base.specs.Tests.{refusal, both}
-use Rattle.flat.specs.Flat.{number, blockOf}
+use Rattle.h265.specs.BitLaws.{bit-below}
+use Rattle.flat.specs.Flat.{number, byte, blockOf}
+use Rattle.flat.specs.FlatLaws.{each-at}
 use Rattle.flatplan.specs.Flat.{runsOf, firstOf}
 use Rattle.model.specs.declared.PaletteCu.{PaletteCu}
 use Rattle.model.specs.Domain.{noColor}
-use Rattle.model.specs.Whole.{blockSizeIn, holds}
+use Rattle.model.specs.Whole.{maxIndex, blockSizeIn, holds}
+use Rattle.model.specs.WholeLaws.{whole}
 use Rattle.putescapes.specs.Escapes.{levelsOf}
 use Rattle.syntax.specs.Runs.{Run}
 use Rattle.write.specs.declared.Written.{Written}
@@ -36,6 +42,10 @@ pub palette-long : (b : List ℕ) → length (blockOf b .palette) ≡ 64
 unfolding blockOf
 palette-long b = laid-length _ _ 0 64 ∙ length-replicate 64 noColor
 
+byte-own : (x : ℕ) → byte x ≤ 64 → x ≡ byte x
+byte-own x h = ⊎-elim (λ (l : x < 255). sym (min-eq-left (omega arith))) (λ (l : 255 ≤ x). let e : byte x ≡ 255 = min-eq-right l in absurd (omega arith)) (lt-or-le x 255)
+
+
 -- the bounds of a block's numbers
 pub record Small (b : List ℕ) : Type 0 where
   pub size : number b 0 ≤ 32
@@ -46,6 +56,19 @@ pub record Small (b : List ℕ) : Type 0 where
 pub small : (b : List ℕ) → holds 64 (blockOf b) ≡ true → Small b
 unfolding blockOf
 small b e = let f = fit (blockOf b) e in record { size = f .small; entries = f .entries; flags = f .flags; signaled = f .signaled }
+
+-- the cells of a block that holds together are its list's own numbers
+pub cells-are : (b : List ℕ) (n : ℕ) → 4432 ≤ length b → holds 64 (blockOf b) ≡ true → n ≡ number b 0 * number b 0 → n ≤ 1024 → take n (drop 336 b) ≡ take n (blockOf b .indices)
+unfolding blockOf maxIndex
+cells-are b n l e k h =
+    let w = whole 64 (blockOf b) e in
+    let p : length (take n (drop 336 b)) ≡ n = length-take-le n (drop 336 b) (omega (arith, length-drop 336 b)) in
+    let q : length (take n (blockOf b .indices)) ≡ n = length-take-le n (blockOf b .indices) (omega (arith, laid-length (λ (i : ℕ). byte (number b (336 + i))) (replicate 1024 0) 0 1024, length-replicate {A = ℕ} 1024 0)) in
+    ext-getD 0 (take n (drop 336 b)) (take n (blockOf b .indices)) (p ∙ sym q) (λ i m.
+    let j : i < n = omega arith in
+    let f : getD (blockOf b .indices) i 0 ≡ byte (number b (336 + i)) = each-at 0 0 1024 (λ (i : ℕ). byte (number b (336 + i))) i (omega arith) in
+    let t : i < number b 0 * number b 0 = omega arith in
+    getD-take n (drop 336 b) i 0 j ∙ getD-drop 336 b i 0 ∙ byte-own (number b (336 + i)) (omega (arith, w .index i t, w .entries, f, bit-below (eqb (number b 8) 1))) ∙ sym (getD-take n (blockOf b .indices) i 0 j ∙ f))
 
 -- ---- bytes laid one after another
 

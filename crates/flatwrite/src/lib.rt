@@ -1,4 +1,4 @@
-// The writer over lists of numbers, for a block that is known to hold together: no record is made. Bins are laid on a list of its own first, so that their number is known before the caller's list is touched.
+// The writer over lists of numbers, for a block that is known to hold together: no record is made. Bins are laid on a list of its own first, so that their number is known before the caller's list is touched; onto the caller's straight where it has room for any such block.
 ghost use mathlib.Core.Path.{_≡_};
 ghost use mathlib.Core.Bool.{true};
 ghost use mathlib.Core.List.{[]};
@@ -7,7 +7,7 @@ ghost use lib.ListN.{length, take};
 ghost use lib.Seq.{sets};
 ghost use Rattle.base.specs.Laid.{Laid};
 ghost use Rattle.base.specs.Pick.{pick};
-ghost use Rattle.flat.specs.Flat.{blockOf};
+ghost use Rattle.flat.specs.Flat.{number, blockOf};
 ghost use Rattle.flatplan.specs.Flat.{runsOf, firstOf};
 ghost use Rattle.model.specs.Whole.{holds};
 ghost use Rattle.putescapes.specs.Escapes.{levelsOf};
@@ -76,7 +76,8 @@ fn put_head(list: &mut [u8], block: &[u16]) -> usize
 // The escape levels, where there are escapes.
 fn put_tail(list: &mut [u8], at: usize, block: &[u16]) -> usize
     requires { ⌜ (4432 ≤ length (now block)) × (holds 64 (blockOf (now block)) ≡ true) × (at < 2 ^ 60) ⌝ }
-    ensures { λ r. ⌜ Laid (now (list .entry)) at (tailOf (blockOf (now (block .entry)))) r (now (list .exit)) ⌝ }
+    ensures laid { λ r. ⌜ Laid (now (list .entry)) at (tailOf (blockOf (now (block .entry)))) r (now (list .exit)) ⌝ }
+    ensures none { λ r. ⌜ ((number (now (block .entry)) 8 ≡ 1 → ⊥) → r ≡ at) ⌝ }
 {
     if block[8] == 1 {
         let size = block[0] as usize;
@@ -108,7 +109,8 @@ fn put_tail(list: &mut [u8], at: usize, block: &[u16]) -> usize
 // The block's bins: palette, index map, escape levels.
 fn put_block(list: &mut [u8], block: &[u16], runs: &[u32], count: usize) -> usize
     requires { ⌜ Lists (now block) (now runs) count × (runsHold (blockOf (now block)) (runsOf (now runs) count) count ≡ true) ⌝ }
-    ensures { λ r. ⌜ Laid (now (list .entry)) 0 (binsOf (blockOf (now (block .entry))) (firstOf (now (runs .entry)) count)) r (now (list .exit)) ⌝ }
+    ensures laid { λ r. ⌜ Laid (now (list .entry)) 0 (binsOf (blockOf (now (block .entry))) (firstOf (now (runs .entry)) count)) r (now (list .exit)) ⌝ }
+    ensures short { λ r. ⌜ ((number (now (block .entry)) 8 ≡ 1 → ⊥) → r ≤ 16451 + 97 * count) ⌝ }
 {
     let size = block[0] as usize;
     let escape = block[8] == 1;
@@ -142,12 +144,27 @@ fn lay(list: &mut [u8], bytes: &[u8], n: usize)
     }
 }
 
+// Yes only where a block without escapes has room for its bins, however long its codes are.
+fn roomy(block: &[u16], count: usize, room: usize) -> bool
+    requires { ⌜ (4432 ≤ length (now block)) × (count ≤ 1024) ⌝ }
+    ensures { λ r. ⌜ (r ≡ true → (number (now (block .entry)) 8 ≡ 1 → ⊥) × (16451 + 97 * count ≤ room)) ⌝ }
+{
+    if block[8] == 1 {
+        return false;
+    }
+    16451 + 97 * count <= room
+}
+
 // The bins of a block that holds together and its first `count` runs, with refusals 8 and 9.
 pub fn write_lists(list: &mut [u8], block: &[u16], runs: &[u32], count: usize) -> Written
     requires { ⌜ Lists (now block) (now runs) count ⌝ }
     ensures { λ r. ⌜ (r ≡ writeOf (blockOf (now (block .entry))) (runsOf (now (runs .entry)) count) count (length (now (list .entry)))) × (now (list .exit) ≡ listAfter (blockOf (now (block .entry))) (runsOf (now (runs .entry)) count) count (now (list .entry))) ⌝ }
 {
     if runs_hold(block, runs, count) {
+        if roomy(block, count, list.len()) {
+            let bins = put_block(list, block, runs, count);
+            return Written { refusal: 0, bins };
+        }
         let mut bytes = [0u8; 4096];
         let n = put_block(&mut bytes[..4096], block, runs, count);
         if list.len() < n {

@@ -69,7 +69,7 @@ pub fn put_indices(
 ) -> usize
     requires { ⌜ (1 ≤ m) × (m ≤ 64) × (at < 2 ^ 62) × (count ≤ 1024) × (4 * count ≤ length (now runs)) × (1 ≤ total) × Each Under (alphabets m (total - 1)) (sentOf (firstOf (now runs) count)) ⌝ }
     ensures laid { λ r. ⌜ Laid (now (list .entry)) at (eachBins tb (alphabets m (total - 1)) (sentOf (firstOf (now (runs .entry)) count))) r (now (list .exit)) ⌝ }
-    ensures near { λ r. ⌜ r ≤ at + 32768 ⌝ }
+    ensures near { λ r. ⌜ r ≤ at + 32 * count ⌝ }
 {
     let mut to = at;
     let mut k: u32 = 0;

@@ -61,7 +61,7 @@ fn put_coded(
 ) -> usize
     requires { ⌜ (at < 2 ^ 61) × (1 ≤ size) × (1 ≤ n) × (n ≤ 1024) × (1 ≤ m) × (m ≤ 64) × (count ≤ 1024) × (4 * count ≤ length (now runs)) × CodedOk size n m (record { turned = turned; runs = firstOf (now runs) count }) ⌝ }
     ensures laid { λ r. ⌜ Laid (now (list .entry)) at (codedBins size n m escape (record { turned = turned; runs = firstOf (now (runs .entry)) count })) r (now (list .exit)) ⌝ }
-    ensures near { λ r. ⌜ r ≤ at + 100000 ⌝ }
+    ensures near { λ r. ⌜ r ≤ at + (67 + 97 * count) ⌝ }
 {
     let total = count_index(runs, count);
     let fin = final_kind(runs, count);
@@ -86,6 +86,7 @@ pub fn put_map(
     requires { ⌜ (at < 2 ^ 61) × (1 ≤ size) × (1 ≤ n) × (n ≤ 1024) × (m ≤ 64) × (1 ≤ m → (count ≤ 1024) × (4 * count ≤ length (now runs)) × CodedOk size n m (record { turned = turned; runs = firstOf (now runs) count })) ⌝ }
     ensures laid { λ r. ⌜ Laid (now (list .entry)) at (mapBins size n m escape (record { turned = turned; runs = firstOf (now (runs .entry)) count })) r (now (list .exit)) ⌝ }
     ensures near { λ r. ⌜ r ≤ at + 100000 ⌝ }
+    ensures short { λ r. ⌜ r ≤ at + (67 + 97 * count) ⌝ }
 {
     if m == 0 {
         return put_marker(list, at, escape);

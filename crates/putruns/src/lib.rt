@@ -105,7 +105,7 @@ pub fn put_runs(
 ) -> usize
     requires { ⌜ (at < 2 ^ 62) × (n ≤ 1024) × (count ≤ 1024) × (4 * count ≤ length (now runs)) × Going size n fin 0 false total (firstOf (now runs) count) ⌝ }
     ensures laid { λ r. ⌜ Laid (now (list .entry)) at (R.runsBins size n fin 0 false (firstOf (now (runs .entry)) count)) r (now (list .exit)) ⌝ }
-    ensures near { λ r. ⌜ r ≤ at + 66560 ⌝ }
+    ensures near { λ r. ⌜ r ≤ at + 65 * count ⌝ }
 {
     let mut to = at;
     let mut i: usize = 0;

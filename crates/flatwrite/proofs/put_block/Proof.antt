@@ -62,7 +62,7 @@ put-map-requires c κs =
     )
 
 put-tail-requires : tie.Need-put-tail-requires
-put-tail-requires c κs = (c .before .before .before .before .before .before .before .before .before .before .before .before .before .before .before .before .before .before .pre .0 .block, c .before .before .before .before .before .before .before .before .before .before .before .before .before .before .before .before .before .before .pre .0 .together, omega (arith, c .before .before .before .before .before .before .before .put-head .ensures .1, c .before .before .before .put-map .ensures .1))
+put-tail-requires c κs = (c .before .before .before .before .before .before .before .before .before .before .before .before .before .before .before .before .before .before .pre .0 .block, c .before .before .before .before .before .before .before .before .before .before .before .before .before .before .before .before .before .before .pre .0 .together, omega (arith, c .before .before .before .before .before .before .before .put-head .ensures .1, c .before .before .before .put-map .ensures .1 .0))
 
 same-length : tie.Need-same-length
 same-length c = search needs
@@ -71,7 +71,7 @@ returns : tie.Need-returns
 unfolding blockOf
 returns c =
     let b = blockOf (c .before .before .before .before .before .before .before .before .before .before .before .before .before .before .before .before .before .before .before .before .before .args .block .now) in
-    block-laid b (firstOf (c .before .before .before .before .before .before .before .before .before .before .before .before .before .before .before .before .before .before .before .before .before .args .runs .now) (c .before .before .before .before .before .before .before .before .before .before .before .before .before .before .before .before .before .before .before .before .before .args .count)) (c .before .before .before .before .before .before .before .before .before .before .before .before .greatest .result) (fit b (c .before .before .before .before .before .before .before .before .before .before .before .before .before .before .before .before .before .before .before .before .before .pre .0 .together)) (palette-long (c .before .before .before .before .before .before .before .before .before .before .before .before .before .before .before .before .before .before .before .before .before .args .block .now)) (c .before .before .before .before .before .before .before .before .before .before .before .before .greatest .ensures .0) (c .before .before .before .before .before .before .before .before .before .before .put-head .ensures .0) (rw (c .before .before .before .before .before .before .before .before .before .before .before .before .before .before .area .ensures .0) at (c .before .before .before .before .before .before .put-map .ensures .0)) (c .before .before .put-tail .ensures)
+    (block-laid b (firstOf (c .before .before .before .before .before .before .before .before .before .before .before .before .before .before .before .before .before .before .before .before .before .args .runs .now) (c .before .before .before .before .before .before .before .before .before .before .before .before .before .before .before .before .before .before .before .before .before .args .count)) (c .before .before .before .before .before .before .before .before .before .before .before .before .greatest .result) (fit b (c .before .before .before .before .before .before .before .before .before .before .before .before .before .before .before .before .before .before .before .before .before .pre .0 .together)) (palette-long (c .before .before .before .before .before .before .before .before .before .before .before .before .before .before .before .before .before .before .before .before .before .args .block .now)) (c .before .before .before .before .before .before .before .before .before .before .before .before .greatest .ensures .0) (c .before .before .before .before .before .before .before .before .before .before .put-head .ensures .0) (rw (c .before .before .before .before .before .before .before .before .before .before .before .before .before .before .area .ensures .0) at (c .before .before .before .before .before .before .put-map .ensures .0)) (c .before .before .put-tail .ensures .0), λ no. omega (arith, c .before .before .put-tail .ensures .1 no, c .before .before .before .before .before .before .put-map .ensures .1 .1, c .before .before .before .before .before .before .before .before .before .before .put-head .ensures .1))
 
 pub put-block-spec : {M : Type 1} → statement M
 put-block-spec =

@@ -1,5 +1,5 @@
 -- `flatwrite::put_tail`
-use mathlib.Core.Path.{sym, _∙_}
+use mathlib.Core.Path.{refl, sym, _∙_}
 use native.Mathlib.Omega.{arith}
 use borrow.Author.Tests.{eq-eqb, ne-eqb}
 use Rattle.base.specs.Laid.{laid-none}
@@ -71,11 +71,11 @@ same-length c = search needs
 
 returns : tie.Need-returns
 unfolding blockOf
-returns c = rw (eq-eqb _ _ (c .before .before .before .before .before .before .before .before .before .before .before .before .before .before .before .before .before .if1 .taken)) (rw (c .before .before .before .before .before .before .before .before .before .before .before .before .before .before .before .area .ensures .0, c .before .before .before .before .before .before .before .before .before .before .before .before .before .before .indices-of .ensures, c .before .before .before .before .before .before .before .before .before .before .before .before .before .escapes-of .ensures, c .before .before .before .before .before .before .before .before .before .before .before .byte .ensures, c .before .before .before .before .before .before .before .before .before .byte2 .ensures, c .before .before .before .before .before .before .before .byte3 .ensures) at (c .before .before .put-escapes .ensures))
+returns c = (rw (eq-eqb _ _ (c .before .before .before .before .before .before .before .before .before .before .before .before .before .before .before .before .before .if1 .taken)) (rw (c .before .before .before .before .before .before .before .before .before .before .before .before .before .before .before .area .ensures .0, c .before .before .before .before .before .before .before .before .before .before .before .before .before .before .indices-of .ensures, c .before .before .before .before .before .before .before .before .before .before .before .before .before .escapes-of .ensures, c .before .before .before .before .before .before .before .before .before .before .before .byte .ensures, c .before .before .before .before .before .before .before .before .before .byte2 .ensures, c .before .before .before .before .before .before .before .byte3 .ensures) at (c .before .before .put-escapes .ensures)), λ no. absurd (no (c .before .before .before .before .before .before .before .before .before .before .before .before .before .before .before .before .before .if1 .taken)))
 
 returns-2 : tie.Need-returns-2
 unfolding blockOf
-returns-2 c = rw (ne-eqb _ _ (c .if1 .left)) (laid-none _ _)
+returns-2 c = (rw (ne-eqb _ _ (c .if1 .left)) (laid-none _ _), λ no. refl)
 
 pub put-tail-spec : {M : Type 1} → statement M
 put-tail-spec =

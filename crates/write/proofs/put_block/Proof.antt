@@ -47,7 +47,7 @@ cast-put-escapes c = let f = fit (c .before .before .before .before .before .bef
 put-escapes-requires : tie.Need-put-escapes-requires
 put-escapes-requires c κs =
     let f = fit (c .before .before .before .before .before .before .before .before .before .before .before .before .before .before .before .before .before .args .cu) (c .before .before .before .before .before .before .before .before .before .before .before .before .before .before .before .before .before .pre .0) in
-    (f .least, c .before .before .before .before .before .before .before .before .before .before .before .before .before .before .area .ensures .1, f .luma, f .chroma, omega (arith, c .before .before .before .before .before .before .before .before .put-head .ensures .1, c .before .before .before .before .put-map .ensures .1))
+    (f .least, c .before .before .before .before .before .before .before .before .before .before .before .before .before .before .area .ensures .1, f .luma, f .chroma, omega (arith, c .before .before .before .before .before .before .before .before .put-head .ensures .1, c .before .before .before .before .put-map .ensures .1 .0))
 
 same-length : tie.Need-same-length
 same-length c = search needs
