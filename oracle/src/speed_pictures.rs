@@ -11,8 +11,8 @@ const ACROSS: usize = 4;
 pub const SPOTS: usize = ACROSS * ACROSS;
 pub const LARGEST: usize = 32;
 const SIDE: usize = ACROSS * LARGEST;
-/// Room for a block's bins, and more.
-pub const ROOM: usize = 1 << 14;
+/// The longest bin list that a block has.
+pub const ROOM: usize = 88_378;
 
 /// The colour of each place, row by row, and the entries of the predictor.
 pub struct Picture {

@@ -39,8 +39,7 @@ fn runs_hold(block: &[u16], runs: &[u32], count: usize) -> bool
     }
     let size = block[0] as usize;
     let n = area(size);
-    let cells = indices_of(block);
-    replays_to(&cells, size, n, m, runs, count)
+    replays_to(block, 336, size, n, m, runs, count)
 }
 
 // The palette's bins.
