@@ -15,7 +15,7 @@ use runstate::end_of;
 
 // The cells above row r: the row before it, the other way round.
 fn fill_row(up: &mut [u16; 1028], cells: &[u16], from: usize, size: usize, r: usize)
-    requires { ⌜ (1 ≤ r) × (r < size) × (size ≤ 32) × (from ≤ 4432) × (from + 1028 ≤ length (now cells)) × (length (now up) ≡ 1028) × Above size (drop from (now cells)) (now up) (r * size) ⌝ }
+    requires { ⌜ (1 ≤ r) × (r < size) × (size ≤ 32) × (from + 1028 ≤ length (now cells)) × (length (now up) ≡ 1028) × Above size (drop from (now cells)) (now up) (r * size) ⌝ }
     ensures { λ _. ⌜ (length (now (up .exit)) ≡ 1028) × Above size (drop from (now (cells .entry))) (now (up .exit)) (r * size + size) ⌝ }
 {
     let row = r * size;
@@ -28,7 +28,7 @@ fn fill_row(up: &mut [u16; 1028], cells: &[u16], from: usize, size: usize, r: us
 
 // The index above each cell; 0 in row 0.
 fn rows_above(cells: &[u16], from: usize, size: usize) -> [u16; 1028]
-    requires { ⌜ (1 ≤ size) × (size ≤ 32) × (from ≤ 4432) × (from + 1028 ≤ length (now cells)) ⌝ }
+    requires { ⌜ (1 ≤ size) × (size ≤ 32) × (from + 1028 ≤ length (now cells)) ⌝ }
     ensures { λ up. ⌜ Above size (drop from (now (cells .entry))) up (size * size) ⌝ }
 {
     let mut up: [u16; 1028] = [0; 1028];
@@ -70,7 +70,7 @@ fn first_same(a: u64, b: u64, k: usize) -> bool
 
 // Whether each cell of a run holds the index above it.
 fn copied_run(cells: &[u16], from: usize, up: &[u16], at: usize, to: usize) -> bool
-    requires { ⌜ (at < to) × (to ≤ 1024) × (from ≤ 4432) × (from + 1028 ≤ length (now cells)) × (1028 ≤ length (now up)) ⌝ }
+    requires { ⌜ (at < to) × (to ≤ 1024) × (from + 1028 ≤ length (now cells)) × (1028 ≤ length (now up)) ⌝ }
     ensures { λ r. ⌜ ((size : ℕ) → Above size (drop from (now (cells .entry))) (now (up .entry)) to → r ≡ copied size (drop from (now (cells .entry))) (to - at) at) ⌝ }
 {
     let mut ok = true;
@@ -89,7 +89,7 @@ fn copied_run(cells: &[u16], from: usize, up: &[u16], at: usize, to: usize) -> b
 
 // Whether each cell of a run holds v.
 fn drawn_run(cells: &[u16], from: usize, v: u16, at: usize, to: usize) -> bool
-    requires { ⌜ (at < to) × (to ≤ 1024) × (from ≤ 4432) × (from + 1028 ≤ length (now cells)) ⌝ }
+    requires { ⌜ (at < to) × (to ≤ 1024) × (from + 1028 ≤ length (now cells)) ⌝ }
     ensures { λ r. ⌜ r ≡ drawn v (drop from (now (cells .entry))) (to - at) at ⌝ }
 {
     let four = four_times(v);
@@ -117,7 +117,7 @@ fn less_one(v: u16, f: u16) -> u16
 
 // The reference of an index run past the start: after a copy-above run the cell above, else the cell before.
 fn reference_in(cells: &[u16], from: usize, up: &[u16], prev: bool, scan: usize) -> u16
-    requires { ⌜ (scan < 1024) × (from ≤ 4432) × (from + 1028 ≤ length (now cells)) × (1028 ≤ length (now up)) ⌝ }
+    requires { ⌜ (scan < 1024) × (from + 1028 ≤ length (now cells)) × (1028 ≤ length (now up)) ⌝ }
     ensures { λ r. ⌜ (1 ≤ scan → r ≡ pick prev (getD (now (up .entry)) scan 0) (getD (drop from (now (cells .entry))) (scan - 1) 0)) ⌝ }
 {
     if prev {
@@ -164,7 +164,7 @@ fn keeps_rules(
     more: u32,
     start: u32,
 ) -> bool
-    requires { ⌜ (scan + more + 1 ≤ 1024) × (m ≤ 1024) × (from ≤ 4432) × (from + 1028 ≤ length (now cells)) × (1028 ≤ length (now up)) × Above size (drop from (now cells)) (now up) (scan + more + 1) ⌝ }
+    requires { ⌜ (scan + more + 1 ≤ 1024) × (m ≤ 1024) × (from + 1028 ≤ length (now cells)) × (1028 ≤ length (now up)) × Above size (drop from (now cells)) (now up) (scan + more + 1) ⌝ }
     ensures { λ r. ⌜ r ≡ rules size m (drop from (now (cells .entry))) scan prev (record { above = above; sent = sent; more = more; start = start }) ⌝ }
 {
     let to = end_of(scan, more);

@@ -23,7 +23,7 @@ mul-row : tie.Need-mul-row Inv-loop μ-loop
 mul-row c = omega (arith, row-small (c .args .r) (c .args .size) (c .pre .1) (c .pre .2), row-low (c .args .r) (c .args .size) (c .pre .0))
 
 loop-holds : tie.Need-loop-holds Inv-loop μ-loop
-loop-holds c = (omega arith, c .pre .5, rw (add-zero (c .args .r * c .args .size)) (c .pre .6))
+loop-holds c = (omega arith, c .pre .4, rw (add-zero (c .args .r * c .args .size)) (c .pre .5))
 
 add-up : tie.Need-add-up Inv-loop μ-loop
 add-up c = omega (arith, row-small (c .before .before .args .r) (c .before .before .args .size) (c .before .before .pre .1) (c .before .before .pre .2), row-low (c .before .before .args .r) (c .before .before .args .size) (c .before .before .pre .0))

@@ -38,7 +38,7 @@ returns-3 : tie.Need-returns-3
 unfolding rules both
 returns-3 c =
     let a : c .before .before .before .before .before .before .end-of .result - c .before .before .before .before .before .before .before .before .before .args .scan ≡ suc (c .before .before .before .before .before .before .before .before .before .args .more) = omega (arith, c .before .before .before .before .before .before .end-of .ensures) in
-    c .copied-run .ensures (c .before .before .before .before .before .before .before .before .before .args .size) (λ i h. c .before .before .before .before .before .before .before .before .before .pre .5 i (omega (arith, c .before .before .before .before .before .before .end-of .ensures))) ∙ rw (a, eq-eqb _ _ (c .before .before .before .before .before .if1 .taken), c .before .before .before .before .if2 .taken, c .before .before .before .if3 .left, le-leb _ _ (c .before .before .if4 .left), eq-eqb _ _ (c .before .if5 .taken))
+    c .copied-run .ensures (c .before .before .before .before .before .before .before .before .before .args .size) (λ i h. c .before .before .before .before .before .before .before .before .before .pre .4 i (omega (arith, c .before .before .before .before .before .before .end-of .ensures))) ∙ rw (a, eq-eqb _ _ (c .before .before .before .before .before .if1 .taken), c .before .before .before .before .if2 .taken, c .before .before .before .if3 .left, le-leb _ _ (c .before .before .if4 .left), eq-eqb _ _ (c .before .if5 .taken))
 
 returns-4 : tie.Need-returns-4
 unfolding rules both
@@ -68,7 +68,7 @@ returns-5 c =
     let a : c .before .before .before .before .before .before .before .end-of .result - c .before .before .before .before .before .before .before .before .before .before .args .scan ≡ suc (c .before .before .before .before .before .before .before .before .before .before .args .more) = omega (arith, c .before .before .before .before .before .before .before .end-of .ensures) in
     let g = c .before .before .before .before .before .before .before .before .before .before .args in
     let d = getD-drop (g .from) (g .cells .now) (g .scan) 0 in
-    let s = rw d at (sent-as (g .size) (g .m) (drop (g .from) (g .cells .now)) (g .up .now) (g .scan) (g .prev) (g .sent) (c .before .before .before .reference-in .result) (λ i h. c .before .before .before .before .before .before .before .before .before .before .pre .5 i (omega arith)) (c .before .before .before .reference-in .ensures)) in
+    let s = rw d at (sent-as (g .size) (g .m) (drop (g .from) (g .cells .now)) (g .up .now) (g .scan) (g .prev) (g .sent) (c .before .before .before .reference-in .result) (λ i h. c .before .before .before .before .before .before .before .before .before .before .pre .4 i (omega arith)) (c .before .before .before .reference-in .ensures)) in
     c .drawn-run .ensures ∙ rw (a, d, eq-eqb _ _ (c .before .before .before .before .before .before .if1 .taken), c .before .before .before .before .before .if2 .left, sym s ∙ sym (c .before .before .sent-right .ensures) ∙ c .before .if6 .taken)
 
 returns-6 : tie.Need-returns-6
@@ -76,7 +76,7 @@ unfolding rules both
 returns-6 c =
     let g = c .before .before .before .before .before .before .before .before .before .args in
     let d = getD-drop (g .from) (g .cells .now) (g .scan) 0 in
-    let s = rw d at (sent-as (g .size) (g .m) (drop (g .from) (g .cells .now)) (g .up .now) (g .scan) (g .prev) (g .sent) (c .before .before .reference-in .result) (λ i h. c .before .before .before .before .before .before .before .before .before .pre .5 i (omega arith)) (c .before .before .reference-in .ensures)) in
+    let s = rw d at (sent-as (g .size) (g .m) (drop (g .from) (g .cells .now)) (g .up .now) (g .scan) (g .prev) (g .sent) (c .before .before .reference-in .result) (λ i h. c .before .before .before .before .before .before .before .before .before .pre .4 i (omega arith)) (c .before .before .reference-in .ensures)) in
     rw (eq-eqb _ _ (c .before .before .before .before .before .if1 .taken), c .before .before .before .before .if2 .left, sym s ∙ sym (c .before .sent-right .ensures) ∙ c .if6 .left)
 
 returns-7 : tie.Need-returns-7

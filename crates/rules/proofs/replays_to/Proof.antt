@@ -57,7 +57,7 @@ slice-aggregate-keeps-rules : tie.Need-slice-aggregate-keeps-rules Inv-loop μ-l
 slice-aggregate-keeps-rules c = omega arith
 
 keeps-rules-requires : tie.Need-keeps-rules-requires Inv-loop μ-loop
-keeps-rules-requires c κs = (omega arith, omega arith, omega arith, omega arith, search needs, λ i h. c .before .before .before .before .before .before .rows-above .ensures i (omega (arith, c .before .before .before .before .before .before .before .before .before .pre .2)))
+keeps-rules-requires c κs = (omega arith, omega arith, omega arith, search needs, λ i h. c .before .before .before .before .before .before .rows-above .ensures i (omega (arith, c .before .before .before .before .before .before .before .before .before .pre .2)))
 
 end-of-requires : tie.Need-end-of-requires Inv-loop μ-loop
 end-of-requires c κs = omega arith

@@ -21,7 +21,7 @@ loop-holds : tie.Need-loop-holds Inv-loop μ-loop
 loop-holds c = (omega arith, omega arith, length-replicate {A = ℕ} 1028 0, above-first (c .before .args .size) (drop (c .before .args .from) (c .before .args .cells .now)) 1028)
 
 fill-row-requires : tie.Need-fill-row-requires Inv-loop μ-loop
-fill-row-requires c κs = (c .before .before .loop .inv .0, omega arith, omega arith, omega arith, omega arith, c .before .before .loop .inv .2, c .before .before .loop .inv .3)
+fill-row-requires c κs = (c .before .before .loop .inv .0, omega arith, omega arith, omega arith, c .before .before .loop .inv .2, c .before .before .loop .inv .3)
 
 add-r : tie.Need-add-r Inv-loop μ-loop
 add-r c = omega arith
