@@ -1,18 +1,17 @@
--- One turn of each test, and that a test of the first n cells is one of the array's.
-use mathlib.Core.Path.{_≡_, refl, ap, sym, _∙_}
-use mathlib.Core.Bool.{Bool, true, false, _&&_}
+-- The cells above, one turn of the list's test, and that a test of the first n cells is one of the list's.
+use mathlib.Core.Path.{_≡_, refl, sym, _∙_}
+use mathlib.Core.Bool.{Bool, true, false}
 use mathlib.Core.Logic.{⊎-elim}
 use mathlib.Core.List.{List, [], _∷_}
 use Prim.Native.Nat.{ℕ, zero, suc, _+_, _-_, _*_, _/_, _≤_, _<_}
-use native.Mathlib.Numerals.{add-one}
 use native.Mathlib.Nat.{le-refl, one-mul, add-mul, mul-le-mul}
 use native.Mathlib.Omega.{arith}
 use lib.Dec.{ltb, eqb}
 use lib.ListN.{length, getD, take, set, replicate}
 use lib.Seq.{getD-take, getD-set-same, getD-set-other}
-use borrow.Author.Tests.{lt-ltb, le-ltb, eq-eqb, ne-eqb, eqb-false}
+use borrow.Author.Tests.{lt-ltb, le-ltb}
 use Rattle.base.specs.Pick.{pick, either, lt-or-le}
-use Rattle.syntax.specs.Runs.{Run, mayCopy}
+use Rattle.syntax.specs.Runs.{Run}
 use Rattle.syntax.specs.Replay.{reference, lessOne}
 use Rattle.h265.specs.Scan.{rowOf, aboveAt}
 use Rattle.h265.specs.ScanLaws.{place-row, above-closed}
@@ -63,54 +62,6 @@ pub sent-as : (size m : ℕ) (xs up : List ℕ) (scan : ℕ) (prev : Bool) (sent
 unfolding sentAs sentRight reference
 sent-as size m xs up zero prev sent f a h = refl
 sent-as size m xs up (suc s) prev sent f a h = let e : f ≡ pick prev (aboveAt size xs (suc s)) (getD xs (suc s - 1) 0) = rw (← a (suc s) (omega arith)) (h (omega arith)) in rw e
-
--- ---- tests of cells
-
-both-and : (a b : Bool) → a && b ≡ both a b
-unfolding both
-both-and true b = refl
-both-and false b = refl
-
-both-assoc : (a b c : Bool) → both a (both b c) ≡ both (both a b) c
-unfolding both
-both-assoc true b c = refl
-both-assoc false b c = refl
-
-both-unit : (a : Bool) → both a true ≡ a
-unfolding both
-both-unit true = refl
-both-unit false = refl
-
-module _ (size : ℕ) (xs : List ℕ) where
-  copied-last : (k i : ℕ) → copied size xs (suc k) i ≡ both (copied size xs k i) (eqb (getD xs (i + k) 0) (aboveAt size xs (i + k)))
-  unfolding copied both
-  copied-last zero i = let z : i + 0 ≡ i = omega arith in rw z (both-unit _)
-  copied-last (suc k) i =
-      let z : i + suc k ≡ suc i + k = omega arith in
-      rw z (ap (both (eqb (getD xs i 0) (aboveAt size xs i))) (copied-last k (suc i)) ∙ both-assoc (eqb (getD xs i 0) (aboveAt size xs i)) (copied size xs k (suc i)) (eqb (getD xs (suc i + k) 0) (aboveAt size xs (suc i + k))))
-
-  pub copied-none : (from k : ℕ) → k ≡ 0 → true ≡ copied size xs k from
-  unfolding copied
-  copied-none from k e = rw e
-
-  pub copied-turn : (ok : Bool) (from i w : ℕ) → from ≤ i → w ≡ aboveAt size xs i → ok ≡ copied size xs (i - from) from → ok && eqb (getD xs i 0) w ≡ copied size xs (i + 1 - from) from
-  copied-turn ok from i w h a e =
-      let z : i + 1 - from ≡ suc (i - from) = omega arith in
-      let y : from + (i - from) ≡ i = omega arith in
-      both-and ok _ ∙ rw (z, copied-last (i - from) from, y, ← e, a)
-
-module _ (v : ℕ) (xs : List ℕ) (k j i : ℕ) (e : k ≡ suc j) where
-  pub drawn-on : getD xs i 0 ≡ v → drawn v xs k i ≡ drawn v xs j (i + 1)
-  unfolding drawn both
-  drawn-on h = rw (e, eq-eqb _ _ h, add-one i)
-
-  pub drawn-not : (getD xs i 0 ≡ v → ⊥) → drawn v xs k i ≡ false
-  unfolding drawn both
-  drawn-not h = rw (e, ne-eqb _ _ h)
-
-pub drawn-end : (v : ℕ) (xs : List ℕ) (k i : ℕ) → k ≡ 0 → drawn v xs k i ≡ true
-unfolding drawn
-drawn-end v xs k i e = rw e
 
 -- ---- the first n cells
 

@@ -1,79 +1,112 @@
 // Refusal 8: the test of a run list against the block's indices.
 ghost use mathlib.Core.Path.{_≡_};
 ghost use mathlib.Core.Bool.{false};
-ghost use Prim.Native.Nat.{ℕ, _+_, _-_, _*_, _≤_, _<_};
-ghost use lib.ListN.{length, take, getD};
+ghost use Prim.Native.Nat.{ℕ, _+_, _-_, _*_, _%_, _^_, _≤_, _<_};
+ghost use lib.Dec.{eqb};
+ghost use lib.ListN.{length, take, drop, getD};
 ghost use Rattle.base.specs.Pick.{pick};
 ghost use Rattle.flatplan.specs.Flat.{firstOf};
 ghost use Rattle.syntax.specs.Replay.{lessOne};
 ghost use Rattle.syntax.specs.Test.{copied, drawn, rules, replays};
 ghost use Rattle.rules.specs.Turns.{Above, sentAs};
+ghost use Rattle.rules.specs.Words.{Word, WordAt};
 use flatplan::run_in;
 use runstate::end_of;
-use runstate::wide;
 
 // The cells above row r: the row before it, the other way round.
-fn fill_row(up: &mut [u8; 1024], cells: &[u8; 1024], size: usize, r: usize)
-    requires { ⌜ (1 ≤ r) × (r < size) × (size ≤ 32) × (length (now up) ≡ 1024) × Above size (now cells) (now up) (r * size) ⌝ }
-    ensures { λ _. ⌜ (length (now (up .exit)) ≡ 1024) × Above size (now (cells .entry)) (now (up .exit)) (r * size + size) ⌝ }
+fn fill_row(up: &mut [u16; 1028], cells: &[u16], from: usize, size: usize, r: usize)
+    requires { ⌜ (1 ≤ r) × (r < size) × (size ≤ 32) × (from + 1028 ≤ length (now cells)) × (length (now up) ≡ 1028) × Above size (drop from (now cells)) (now up) (r * size) ⌝ }
+    ensures { λ _. ⌜ (length (now (up .exit)) ≡ 1028) × Above size (drop from (now (cells .entry))) (now (up .exit)) (r * size + size) ⌝ }
 {
     let row = r * size;
     let mut j: usize = 0;
     while j < size {
-        up[row + j] = cells[row - (j + 1)];
+        up[row + j] = cells[from + (row - (j + 1))];
         j += 1;
     }
 }
 
 // The index above each cell; 0 in row 0.
-fn rows_above(cells: &[u8; 1024], size: usize) -> [u8; 1024]
-    requires { ⌜ (1 ≤ size) × (size ≤ 32) ⌝ }
-    ensures { λ up. ⌜ Above size (now (cells .entry)) up (size * size) ⌝ }
+fn rows_above(cells: &[u16], from: usize, size: usize) -> [u16; 1028]
+    requires { ⌜ (1 ≤ size) × (size ≤ 32) × (from + 1028 ≤ length (now cells)) ⌝ }
+    ensures { λ up. ⌜ Above size (drop from (now (cells .entry))) up (size * size) ⌝ }
 {
-    let mut up: [u8; 1024] = [0; 1024];
+    let mut up: [u16; 1028] = [0; 1028];
     let mut r: usize = 1;
     while r < size {
-        fill_row(&mut up, cells, size, r);
+        fill_row(&mut up, cells, from, size, r);
         r += 1;
     }
     up
 }
 
+// The four numbers from place i on as one, the first lowest.
+fn word(list: &[u16], i: usize) -> u64
+    requires { ⌜ i + 4 ≤ length (now list) ⌝ }
+    ensures { λ r. ⌜ WordAt (now (list .entry)) i r ⌝ }
+{
+    let a = list[i] as u64;
+    let b = list[i + 1] as u64;
+    let c = list[i + 2] as u64;
+    let d = list[i + 3] as u64;
+    a + b * 65536 + c * 4294967296 + d * 281474976710656
+}
+
+// The word of four times v.
+fn four_times(v: u16) -> u64
+    ensures { λ r. ⌜ Word v v v v r ⌝ }
+{
+    (v as u64) * 281479271743489
+}
+
+// Whether the first k numbers of two words are the same.
+fn first_same(a: u64, b: u64, k: usize) -> bool
+    requires { ⌜ (1 ≤ k) × (k ≤ 4) ⌝ }
+    ensures { λ r. ⌜ r ≡ eqb (a % 2 ^ (16 * k)) (b % 2 ^ (16 * k)) ⌝ }
+{
+    let s = (64 - 16 * k) as u64;
+    (a << s) == (b << s)
+}
+
 // Whether each cell of a run holds the index above it.
-fn copied_run(cells: &[u8; 1024], up: &[u8; 1024], from: usize, to: usize) -> bool
-    requires { ⌜ (from ≤ to) × (to ≤ 1024) ⌝ }
-    ensures { λ r. ⌜ ((size : ℕ) → Above size (now (cells .entry)) (now (up .entry)) to → r ≡ copied size (now (cells .entry)) (to - from) from) ⌝ }
+fn copied_run(cells: &[u16], from: usize, up: &[u16], at: usize, to: usize) -> bool
+    requires { ⌜ (at < to) × (to ≤ 1024) × (from + 1028 ≤ length (now cells)) × (1028 ≤ length (now up)) ⌝ }
+    ensures { λ r. ⌜ ((size : ℕ) → Above size (drop from (now (cells .entry))) (now (up .entry)) to → r ≡ copied size (drop from (now (cells .entry))) (to - at) at) ⌝ }
 {
     let mut ok = true;
-    let mut i = from;
-    while i < to {
-        let v = cells[i];
-        let w = up[i];
-        ok = ok & (v == w);
-        i += 1;
+    let mut i = at;
+    while i + 4 < to {
+        let a = word(cells, from + i);
+        let b = word(up, i);
+        ok = ok & (a == b);
+        i += 4;
     }
-    ok
+    let a = word(cells, from + i);
+    let b = word(up, i);
+    let last = first_same(a, b, to - i);
+    ok & last
 }
 
 // Whether each cell of a run holds v.
-fn drawn_run(cells: &[u8; 1024], v: u8, from: usize, to: usize) -> bool
-    requires { ⌜ (from ≤ to) × (to ≤ 1024) ⌝ }
-    ensures { λ r. ⌜ r ≡ drawn v (now (cells .entry)) (to - from) from ⌝ }
+fn drawn_run(cells: &[u16], from: usize, v: u16, at: usize, to: usize) -> bool
+    requires { ⌜ (at < to) × (to ≤ 1024) × (from + 1028 ≤ length (now cells)) ⌝ }
+    ensures { λ r. ⌜ r ≡ drawn v (drop from (now (cells .entry))) (to - at) at ⌝ }
 {
-    let mut i = from;
-    while i < to {
-        let w = cells[i];
-        if w == v {
-            i += 1;
-        } else {
-            return false;
-        }
+    let four = four_times(v);
+    let mut ok = true;
+    let mut i = at;
+    while i + 4 < to {
+        let a = word(cells, from + i);
+        ok = ok & (a == four);
+        i += 4;
     }
-    true
+    let a = word(cells, from + i);
+    let last = first_same(a, four, to - i);
+    ok & last
 }
 
 // The index sent for v: one less where v is above its reference.
-fn less_one(v: u8, f: u8) -> u8
+fn less_one(v: u16, f: u16) -> u16
     ensures { λ r. ⌜ r ≡ lessOne v f ⌝ }
 {
     if f < v {
@@ -83,9 +116,9 @@ fn less_one(v: u8, f: u8) -> u8
 }
 
 // The reference of an index run past the start: after a copy-above run the cell above, else the cell before.
-fn reference_in(cells: &[u8; 1024], up: &[u8; 1024], prev: bool, scan: usize) -> u8
-    requires { ⌜ scan < 1024 ⌝ }
-    ensures { λ r. ⌜ (1 ≤ scan → r ≡ pick prev (getD (now (up .entry)) scan 0) (getD (now (cells .entry)) (scan - 1) 0)) ⌝ }
+fn reference_in(cells: &[u16], from: usize, up: &[u16], prev: bool, scan: usize) -> u16
+    requires { ⌜ (scan < 1024) × (from + 1028 ≤ length (now cells)) × (1028 ≤ length (now up)) ⌝ }
+    ensures { λ r. ⌜ (1 ≤ scan → r ≡ pick prev (getD (now (up .entry)) scan 0) (getD (drop from (now (cells .entry))) (scan - 1) 0)) ⌝ }
 {
     if prev {
         return up[scan];
@@ -93,16 +126,16 @@ fn reference_in(cells: &[u8; 1024], up: &[u8; 1024], prev: bool, scan: usize) ->
     if scan == 0 {
         return 0;
     }
-    cells[scan - 1]
+    cells[from + (scan - 1)]
 }
 
 // Whether the index sent is that of a run of v, where f is its reference.
-fn sent_right(v: u8, f: u8, m: u32, scan: usize, sent: u32) -> bool
+fn sent_right(v: u16, f: u16, m: u32, scan: usize, sent: u32) -> bool
     requires { ⌜ m ≤ 1024 ⌝ }
     ensures { λ r. ⌜ r ≡ sentAs m v f scan sent ⌝ }
 {
     if scan == 0 {
-        if sent == wide(v) {
+        if sent == v as u32 {
             return sent < m + 1;
         }
         return false;
@@ -111,7 +144,7 @@ fn sent_right(v: u8, f: u8, m: u32, scan: usize, sent: u32) -> bool
         return false;
     }
     let s = less_one(v, f);
-    if sent == wide(s) {
+    if sent == s as u32 {
         return sent < m;
     }
     false
@@ -119,8 +152,9 @@ fn sent_right(v: u8, f: u8, m: u32, scan: usize, sent: u32) -> bool
 
 // Whether a run keeps the rules at place `scan`.
 fn keeps_rules(
-    cells: &[u8; 1024],
-    up: &[u8; 1024],
+    cells: &[u16],
+    from: usize,
+    up: &[u16],
     size: usize,
     m: u32,
     scan: usize,
@@ -130,8 +164,8 @@ fn keeps_rules(
     more: u32,
     start: u32,
 ) -> bool
-    requires { ⌜ (scan + more + 1 ≤ 1024) × (m ≤ 1024) × Above size (now cells) (now up) (scan + more + 1) ⌝ }
-    ensures { λ r. ⌜ r ≡ rules size m (now (cells .entry)) scan prev (record { above = above; sent = sent; more = more; start = start }) ⌝ }
+    requires { ⌜ (scan + more + 1 ≤ 1024) × (m ≤ 1024) × (from + 1028 ≤ length (now cells)) × (1028 ≤ length (now up)) × Above size (drop from (now cells)) (now up) (scan + more + 1) ⌝ }
+    ensures { λ r. ⌜ r ≡ rules size m (drop from (now (cells .entry))) scan prev (record { above = above; sent = sent; more = more; start = start }) ⌝ }
 {
     let to = end_of(scan, more);
     let s = start as usize;
@@ -144,33 +178,34 @@ fn keeps_rules(
                 return false;
             }
             if sent == 0 {
-                return copied_run(cells, up, scan, to);
+                return copied_run(cells, from, up, scan, to);
             }
             return false;
         }
-        let v = cells[scan];
-        let f = reference_in(cells, up, prev, scan);
+        let v = cells[from + scan];
+        let f = reference_in(cells, from, up, prev, scan);
         if sent_right(v, f, m, scan, sent) {
-            return drawn_run(cells, v, scan, to);
+            return drawn_run(cells, from, v, scan, to);
         }
         return false;
     }
     false
 }
 
-// Whether the first `count` runs replay to the first n indices under the run rules.
+// Whether the first `count` runs replay to the n indices from place `from` on under the run rules.
 pub fn replays_to(
-    cells: &[u8; 1024],
+    cells: &[u16],
+    from: usize,
     size: usize,
     n: usize,
     m: u32,
     runs: &[u32],
     count: usize,
 ) -> bool
-    requires { ⌜ (1 ≤ size) × (size ≤ 32) × (n ≡ size * size) × (n ≤ 1024) × (count ≤ 1024) × (m ≤ 1024) × (4 * count ≤ length (now runs)) ⌝ }
-    ensures { λ r. ⌜ r ≡ replays size n m (take n (now (cells .entry))) 0 false (firstOf (now (runs .entry)) count) ⌝ }
+    requires { ⌜ (1 ≤ size) × (size ≤ 32) × (n ≡ size * size) × (n ≤ 1024) × (from ≤ 4432) × (from + 1028 ≤ length (now cells)) × (count ≤ 1024) × (m ≤ 1024) × (4 * count ≤ length (now runs)) ⌝ }
+    ensures { λ r. ⌜ r ≡ replays size n m (take n (drop from (now (cells .entry)))) 0 false (firstOf (now (runs .entry)) count) ⌝ }
 {
-    let up = rows_above(cells, size);
+    let up = rows_above(cells, from, size);
     let mut i: usize = 0;
     let mut scan: usize = 0;
     let mut prev = false;
@@ -182,6 +217,7 @@ pub fn replays_to(
         }
         if keeps_rules(
             cells,
+            from,
             &up,
             size,
             m,

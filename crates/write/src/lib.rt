@@ -3,7 +3,7 @@ ghost use mathlib.Core.Path.{_≡_};
 ghost use mathlib.Core.Bool.{true};
 ghost use mathlib.Core.List.{[], _∷_};
 ghost use Prim.Native.Nat.{_+_, _-_, _*_, _≤_};
-ghost use lib.ListN.{length};
+ghost use lib.ListN.{length, take};
 ghost use Rattle.base.specs.Laid.{Laid};
 ghost use Rattle.base.specs.Tests.{refusal};
 ghost use Rattle.flatplan.specs.Flat.{runsOf, firstOf};
@@ -49,6 +49,20 @@ pub fn greatest(size: usize, escape: bool) -> u32
     (size - 1) as u32
 }
 
+// The first n indices in a list of wider numbers.
+fn widened(indices: [u8; 1024], n: usize) -> [u16; 1028]
+    requires { ⌜ n ≤ 1024 ⌝ }
+    ensures { λ r. ⌜ take n r ≡ take n indices ⌝ }
+{
+    let mut cells: [u16; 1028] = [0; 1028];
+    let mut i: usize = 0;
+    while i < n {
+        cells[i] = indices[i] as u16;
+        i += 1;
+    }
+    cells
+}
+
 // The test for refusal 8: with M = 0 the list is ignored.
 fn runs_hold(cu: PaletteCu, runs: &[u32], count: usize) -> bool
     requires { ⌜ (holds 64 cu ≡ true) × (4096 ≤ length (now runs)) ⌝ }
@@ -62,8 +76,9 @@ fn runs_hold(cu: PaletteCu, runs: &[u32], count: usize) -> bool
         return false;
     }
     let n = area(cu.size);
-    let cells = cu.indices;
-    replays_to(&cells, cu.size, n, m, runs, count)
+    let indices = cu.indices;
+    let cells = widened(indices, n);
+    replays_to(&cells, 0, cu.size, n, m, runs, count)
 }
 
 // The palette's bins.

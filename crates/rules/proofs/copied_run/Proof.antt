@@ -1,29 +1,37 @@
 -- `rules::copied_run`. The loop's invariant: the cells passed were tested.
 use mathlib.Core.Path.{_≡_, sym, _∙_}
-use Prim.Native.Nat.{ℕ, _+_, _-_, _≤_}
+use Prim.Native.Nat.{_+_, _-_, _<_, _≤_}
 use native.Mathlib.Omega.{arith}
-use Rattle.syntax.specs.Test.{copied}
-use Rattle.rules.specs.Turns.{Above, copied-none, copied-turn}
+use lib.ListN.{drop}
+use Rattle.rules.specs.Words.{same, cellAt, same-none, same-on, word-drop, word-same, first-same, copied-same}
 use borrow.Author.Needs.{needs}
 use Rattle.rules.proofs.copied_run.Statement.{statement}
 use Rattle.rules.proofs.copied_run.Tie as tie
 use Rattle.rules.proofs.copied_run.Reads as reads
 use Rattle.rules.proofs.copied_run.Lts as lts
+use Rattle.rules.proofs.first_same.Reads as first-same-reads
+use Rattle.rules.proofs.word.Reads as word-reads
 
 abbrev Inv-loop : tie.InvT-loop
-Inv-loop cells up from to ok₀ i₀ ok i = (from ≤ i) × (i ≤ to) × ((size : ℕ) → Above size cells up to → ok ≡ copied size cells (i - from) from)
+Inv-loop cells from up at to ok₀ i₀ ok i = (at ≤ i) × (i < to) × (ok ≡ same (cellAt (drop from cells)) (cellAt up) (i - at) at)
 
 abbrev μ-loop : tie.MeasureT-loop
-μ-loop cells up from to ok₀ i₀ ok i = to - i
+μ-loop cells from up at to ok₀ i₀ ok i = to - i
 
 loop-holds : tie.Need-loop-holds Inv-loop μ-loop
-loop-holds c = (omega arith, omega arith, λ size a. copied-none size (c .args .cells .now) (c .args .from) (c .args .from - c .args .from) (omega arith))
+loop-holds c = (omega arith, omega arith, same-none (cellAt (drop (c .before .before .args .from) (c .before .before .args .cells .now))) (cellAt (c .before .before .args .up .now)) (c .before .before .args .at - c .before .before .args .at) (c .before .before .args .at) (omega arith))
 
-element-copy-out-v : tie.Need-element-copy-out-v Inv-loop μ-loop
-element-copy-out-v c = omega arith
+add-loop : tie.Need-add-loop Inv-loop μ-loop
+add-loop c = omega arith
 
-element-copy-out-w : tie.Need-element-copy-out-w Inv-loop μ-loop
-element-copy-out-w c = omega arith
+add-word : tie.Need-add-word Inv-loop μ-loop
+add-word c = omega arith
+
+word-requires : tie.Need-word-requires Inv-loop μ-loop
+word-requires c κs = omega arith
+
+word-requires-2 : tie.Need-word-requires-2 Inv-loop μ-loop
+word-requires-2 c κs = omega arith
 
 add-i : tie.Need-add-i Inv-loop μ-loop
 add-i c = omega arith
@@ -32,12 +40,36 @@ loop-less : tie.Need-loop-less Inv-loop μ-loop
 loop-less c = omega arith
 
 loop-again : tie.Need-loop-again Inv-loop μ-loop
-loop-again c = (omega arith, omega arith, λ size a. copied-turn size (c .before .before .before .before .args .cells .now) (c .before .before .before .loop .ok) (c .before .before .before .before .args .from) (c .before .before .before .loop .i) _ (c .before .before .before .loop .inv .0) (a (c .before .before .before .loop .i) (omega arith)) (c .before .before .before .loop .inv .2 size a))
+loop-again c =
+    let g = c .before .before .before .before .before .before .args in
+    let l = c .before .before .before .loop in
+    let xs = drop (g .from) (g .cells .now) in
+    let e = word-same (cellAt xs) (cellAt (g .up .now)) (l .i) _ _ (word-drop (g .from) (g .cells .now) (l .i) _ (c .before .word .ensures)) (c .word2 .ensures) (l .i + 4 - l .i) (omega arith) in
+    (omega arith, omega arith, same-on (cellAt xs) (cellAt (g .up .now)) (l .ok) _ (g .at) (l .i) (l .i + 4) (l .inv .0) (omega arith) (l .inv .2) e)
+
+add-word-2 : tie.Need-add-word-2 Inv-loop μ-loop
+add-word-2 c = omega arith
+
+word-requires-3 : tie.Need-word-requires-3 Inv-loop μ-loop
+word-requires-3 c κs = omega arith
+
+word-requires-4 : tie.Need-word-requires-4 Inv-loop μ-loop
+word-requires-4 c κs = omega arith
+
+sub-first-same : tie.Need-sub-first-same Inv-loop μ-loop
+sub-first-same c = omega arith
+
+first-same-requires : tie.Need-first-same-requires Inv-loop μ-loop
+first-same-requires c κs = omega arith
 
 returns : tie.Need-returns Inv-loop μ-loop
 returns c =
-    let e : c .before .loop .i ≡ c .before .before .args .to = omega arith in
-    λ size a. rw e at (c .before .loop .inv .2 size a)
+    let g = c .before .before .before .before .before .before .before .args in
+    let l = c .before .before .before .before .loop in
+    let xs = drop (g .from) (g .cells .now) in
+    let e = c .first-same .ensures ∙ first-same (cellAt xs) (cellAt (g .up .now)) (l .i) _ _ (word-drop (g .from) (g .cells .now) (l .i) _ (c .before .before .word3 .ensures)) (c .before .word4 .ensures) (g .to - l .i) (omega arith) (omega arith) in
+    let t = same-on (cellAt xs) (cellAt (g .up .now)) (l .ok) _ (g .at) (l .i) (g .to) (l .inv .0) (omega arith) (l .inv .2) e in
+    λ size a. t ∙ copied-same size xs (g .up .now) (g .to - g .at) (g .at) (λ i h. a i (omega arith))
 
 pub copied-run-spec : {M : Type 1} → statement M
 copied-run-spec =
@@ -46,9 +78,16 @@ copied-run-spec =
     Inv-loop
     μ-loop
     loop-holds
-    element-copy-out-v
-    element-copy-out-w
+    add-loop
+    add-word
+    word-requires
+    word-requires-2
     add-i
     loop-less
     loop-again
+    add-word-2
+    word-requires-3
+    word-requires-4
+    sub-first-same
+    first-same-requires
     returns)

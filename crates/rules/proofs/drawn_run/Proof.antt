@@ -1,30 +1,38 @@
-use mathlib.Core.Path.{_≡_, refl, sym, ap, _∙_}
-use mathlib.Core.Bool.{Bool, true, false}
-use mathlib.Core.List.{List, [], _∷_, _++_}
-use Prim.Native.Nat.{ℕ, suc, _+_, _-_, _*_, _/_, _≤_, _<_}
+-- `rules::drawn_run`. The loop's invariant: the cells passed were tested.
+use mathlib.Core.Path.{_≡_, sym, _∙_}
+use Prim.Native.Nat.{_+_, _-_, _<_, _≤_}
 use native.Mathlib.Omega.{arith}
-use lib.ListN.{length, take, drop, getD, set}
-use borrow.Author.Tests.{lt-ltb, le-ltb, eq-eqb, ne-eqb, lt-leb, le-leb}
-use Rattle.base.specs.Pick.{pick}
-use Rattle.syntax.specs.Test.{drawn}
-use Rattle.rules.specs.Turns.{drawn-on, drawn-not, drawn-end}
+use lib.ListN.{drop}
+use Rattle.rules.specs.Words.{same, cellAt, always, same-none, same-on, word-drop, word-same, first-same, drawn-same}
 use borrow.Author.Needs.{needs}
 use Rattle.rules.proofs.drawn_run.Statement.{statement}
 use Rattle.rules.proofs.drawn_run.Tie as tie
 use Rattle.rules.proofs.drawn_run.Reads as reads
 use Rattle.rules.proofs.drawn_run.Lts as lts
+use Rattle.rules.proofs.first_same.Reads as first-same-reads
+use Rattle.rules.proofs.four_times.Reads as four-times-reads
+use Rattle.rules.proofs.word.Reads as word-reads
 
 abbrev Inv-loop : tie.InvT-loop
-Inv-loop cells v from to i₀ i = (from ≤ i) × (i ≤ to) × (drawn v cells (to - i) i ≡ drawn v cells (to - from) from)
+Inv-loop cells from v at to four ok₀ i₀ ok i = (at ≤ i) × (i < to) × (ok ≡ same (cellAt (drop from cells)) (always v) (i - at) at)
 
 abbrev μ-loop : tie.MeasureT-loop
-μ-loop cells v from to i₀ i = to - i
+μ-loop cells from v at to four ok₀ i₀ ok i = to - i
+
+four-times-requires : tie.Need-four-times-requires Inv-loop μ-loop
+four-times-requires c κs = search needs
 
 loop-holds : tie.Need-loop-holds Inv-loop μ-loop
-loop-holds c = (omega arith, omega arith, refl)
+loop-holds c = (omega arith, omega arith, same-none (cellAt (drop (c .before .before .args .from) (c .before .before .args .cells .now))) (always (c .before .before .args .v)) (c .before .before .args .at - c .before .before .args .at) (c .before .before .args .at) (omega arith))
 
-element-copy-out-w : tie.Need-element-copy-out-w Inv-loop μ-loop
-element-copy-out-w c = omega arith
+add-loop : tie.Need-add-loop Inv-loop μ-loop
+add-loop c = omega arith
+
+add-word : tie.Need-add-word Inv-loop μ-loop
+add-word c = omega arith
+
+word-requires : tie.Need-word-requires Inv-loop μ-loop
+word-requires c κs = omega arith
 
 add-i : tie.Need-add-i Inv-loop μ-loop
 add-i c = omega arith
@@ -34,21 +42,31 @@ loop-less c = omega arith
 
 loop-again : tie.Need-loop-again Inv-loop μ-loop
 loop-again c =
-    let b = c .before .before .before .loop in
-    let g = c .before .before .before .before .args in
-    (omega arith, omega arith, sym (drawn-on (g .v) (g .cells .now) (g .to - b .i) (g .to - (b .i + 1)) (b .i) (omega arith) (c .if1 .taken)) ∙ b .inv .2)
+    let g = c .before .before .before .before .before .args in
+    let l = c .before .before .loop in
+    let xs = drop (g .from) (g .cells .now) in
+    let e = word-same (cellAt xs) (always (g .v)) (l .i) _ _ (word-drop (g .from) (g .cells .now) (l .i) _ (c .word .ensures)) (c .before .before .before .four-times .ensures) (l .i + 4 - l .i) (omega arith) in
+    (omega arith, omega arith, same-on (cellAt xs) (always (g .v)) (l .ok) _ (g .at) (l .i) (l .i + 4) (l .inv .0) (omega arith) (l .inv .2) e)
+
+add-word-2 : tie.Need-add-word-2 Inv-loop μ-loop
+add-word-2 c = omega arith
+
+word-requires-2 : tie.Need-word-requires-2 Inv-loop μ-loop
+word-requires-2 c κs = omega arith
+
+sub-first-same : tie.Need-sub-first-same Inv-loop μ-loop
+sub-first-same c = omega arith
+
+first-same-requires : tie.Need-first-same-requires Inv-loop μ-loop
+first-same-requires c κs = omega arith
 
 returns : tie.Need-returns Inv-loop μ-loop
 returns c =
-    let b = c .before .before .before .loop in
-    let g = c .before .before .before .before .args in
-    sym (drawn-not (g .v) (g .cells .now) (g .to - b .i) (g .to - (b .i + 1)) (b .i) (omega arith) (c .if1 .left)) ∙ b .inv .2
-
-returns-2 : tie.Need-returns-2 Inv-loop μ-loop
-returns-2 c =
-    let b = c .before .loop in
-    let g = c .before .before .args in
-    sym (drawn-end (g .v) (g .cells .now) (g .to - b .i) (b .i) (omega arith)) ∙ b .inv .2
+    let g = c .before .before .before .before .before .before .args in
+    let l = c .before .before .before .loop in
+    let xs = drop (g .from) (g .cells .now) in
+    let e = c .first-same .ensures ∙ first-same (cellAt xs) (always (g .v)) (l .i) _ _ (word-drop (g .from) (g .cells .now) (l .i) _ (c .before .word2 .ensures)) (c .before .before .before .before .four-times .ensures) (g .to - l .i) (omega arith) (omega arith) in
+    same-on (cellAt xs) (always (g .v)) (l .ok) _ (g .at) (l .i) (g .to) (l .inv .0) (omega arith) (l .inv .2) e ∙ drawn-same (g .v) xs (g .to - g .at) (g .at)
 
 pub drawn-run-spec : {M : Type 1} → statement M
 drawn-run-spec =
@@ -56,10 +74,16 @@ drawn-run-spec =
     (tie.spec
     Inv-loop
     μ-loop
+    four-times-requires
     loop-holds
-    element-copy-out-w
+    add-loop
+    add-word
+    word-requires
     add-i
     loop-less
     loop-again
-    returns
-    returns-2)
+    add-word-2
+    word-requires-2
+    sub-first-same
+    first-same-requires
+    returns)

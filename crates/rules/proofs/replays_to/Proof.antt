@@ -15,12 +15,16 @@ use Rattle.rules.proofs.replays_to.Statement.{statement}
 use Rattle.rules.proofs.replays_to.Tie as tie
 use Rattle.rules.proofs.replays_to.Reads as reads
 use Rattle.rules.proofs.replays_to.Lts as lts
+use Rattle.flatplan.proofs.run_in.Reads as run-in-reads
+use Rattle.rules.proofs.keeps_rules.Reads as keeps-rules-reads
+use Rattle.rules.proofs.rows_above.Reads as rows-above-reads
+use Rattle.runstate.proofs.end_of.Reads as end-of-reads
 
 abbrev Inv-loop : tie.InvT-loop
-Inv-loop cells size n m runs count up i₀ scan₀ prev₀ i scan prev = (i ≤ count) × (scan ≤ n) × (replays size n m (take n cells) scan prev (drop i (firstOf runs count)) ≡ replays size n m (take n cells) 0 false (firstOf runs count))
+Inv-loop cells from size n m runs count up i₀ scan₀ prev₀ i scan prev = (i ≤ count) × (scan ≤ n) × (replays size n m (take n (drop from cells)) scan prev (drop i (firstOf runs count)) ≡ replays size n m (take n (drop from cells)) 0 false (firstOf runs count))
 
 abbrev μ-loop : tie.MeasureT-loop
-μ-loop cells size n m runs count up i₀ scan₀ prev₀ i scan prev = count - i
+μ-loop cells from size n m runs count up i₀ scan₀ prev₀ i scan prev = count - i
 
 rows-above-requires : tie.Need-rows-above-requires Inv-loop μ-loop
 rows-above-requires c κs = omega arith
@@ -43,14 +47,17 @@ sub-if1 c = omega arith
 returns : tie.Need-returns Inv-loop μ-loop
 returns c =
     let b = c .before .before .before .before .loop in
-    let g = c .before .before .before .before .before .before .before .args in
+    let g = c .before .before .before .before .before .before .before .before .args in
     let r = c .before .before .run-in .result in
     let rs = drop (b .i + 1) (firstOf (g .runs .now) (g .count)) in
     let e = first-next (g .runs .now) (g .count) (b .i) (omega arith) (omega arith) ∙ ap (λ (z : Run). z ∷ rs) (sym (c .before .before .run-in .ensures)) in
-    sym (replays-over (g .size) (g .n) (g .m) (take (g .n) (g .cells .now)) (b .scan) (b .prev) r rs (omega arith)) ∙ rw e at (b .inv .2)
+    sym (replays-over (g .size) (g .n) (g .m) (take (g .n) (drop (g .from) (g .cells .now))) (b .scan) (b .prev) r rs (omega arith)) ∙ rw e at (b .inv .2)
+
+slice-aggregate-keeps-rules : tie.Need-slice-aggregate-keeps-rules Inv-loop μ-loop
+slice-aggregate-keeps-rules c = omega arith
 
 keeps-rules-requires : tie.Need-keeps-rules-requires Inv-loop μ-loop
-keeps-rules-requires c κs = (omega arith, omega arith, λ i h. c .before .before .before .before .before .before .rows-above .ensures i (omega (arith, c .before .before .before .before .before .before .before .before .pre .2)))
+keeps-rules-requires c κs = (omega arith, omega arith, omega arith, search needs, λ i h. c .before .before .before .before .before .before .rows-above .ensures i (omega (arith, c .before .before .before .before .before .before .before .before .before .pre .2)))
 
 end-of-requires : tie.Need-end-of-requires Inv-loop μ-loop
 end-of-requires c κs = omega arith
@@ -64,29 +71,29 @@ loop-less c = omega arith
 loop-again : tie.Need-loop-again Inv-loop μ-loop
 loop-again c =
     let b = c .before .before .before .before .before .before .before .before .loop in
-    let g = c .before .before .before .before .before .before .before .before .before .before .before .args in
+    let g = c .before .before .before .before .before .before .before .before .before .before .before .before .args in
     let r = c .before .before .before .before .before .before .run-in .result in
     let rs = drop (b .i + 1) (firstOf (g .runs .now) (g .count)) in
     let e = first-next (g .runs .now) (g .count) (b .i) (omega arith) (omega arith) ∙ ap (λ (z : Run). z ∷ rs) (sym (c .before .before .before .before .before .before .run-in .ensures)) in
-    let q = rules-take (g .size) (g .m) (g .n) (g .cells .now) (b .scan) (b .prev) r (omega arith) (omega arith) ∙ (sym (c .before .before .keeps-rules .ensures) ∙ c .before .if2 .taken) in
-    (omega arith, omega (arith, c .end-of .ensures), rw (c .end-of .ensures) (sym (replays-on (g .size) (g .n) (g .m) (take (g .n) (g .cells .now)) (b .scan) (b .prev) r rs q) ∙ rw e at (b .inv .2)))
+    let q = rules-take (g .size) (g .m) (g .n) (drop (g .from) (g .cells .now)) (b .scan) (b .prev) r (omega arith) (omega arith) ∙ (sym (c .before .before .keeps-rules .ensures) ∙ c .before .if2 .taken) in
+    (omega arith, omega (arith, c .end-of .ensures), rw (c .end-of .ensures) (sym (replays-on (g .size) (g .n) (g .m) (take (g .n) (drop (g .from) (g .cells .now))) (b .scan) (b .prev) r rs q) ∙ rw e at (b .inv .2)))
 
 returns-2 : tie.Need-returns-2 Inv-loop μ-loop
 returns-2 c =
     let b = c .before .before .before .before .before .before .before .loop in
-    let g = c .before .before .before .before .before .before .before .before .before .before .args in
+    let g = c .before .before .before .before .before .before .before .before .before .before .before .args in
     let r = c .before .before .before .before .before .run-in .result in
     let rs = drop (b .i + 1) (firstOf (g .runs .now) (g .count)) in
     let e = first-next (g .runs .now) (g .count) (b .i) (omega arith) (omega arith) ∙ ap (λ (z : Run). z ∷ rs) (sym (c .before .before .before .before .before .run-in .ensures)) in
-    let q = rules-take (g .size) (g .m) (g .n) (g .cells .now) (b .scan) (b .prev) r (omega arith) (omega arith) ∙ (sym (c .before .keeps-rules .ensures) ∙ c .if2 .left) in
-    sym (replays-not (g .size) (g .n) (g .m) (take (g .n) (g .cells .now)) (b .scan) (b .prev) r rs q) ∙ rw e at (b .inv .2)
+    let q = rules-take (g .size) (g .m) (g .n) (drop (g .from) (g .cells .now)) (b .scan) (b .prev) r (omega arith) (omega arith) ∙ (sym (c .before .keeps-rules .ensures) ∙ c .if2 .left) in
+    sym (replays-not (g .size) (g .n) (g .m) (take (g .n) (drop (g .from) (g .cells .now))) (b .scan) (b .prev) r rs q) ∙ rw e at (b .inv .2)
 
 returns-3 : tie.Need-returns-3 Inv-loop μ-loop
 returns-3 c =
     let b = c .before .loop in
-    let g = c .before .before .before .before .args in
+    let g = c .before .before .before .before .before .args in
     let e = first-end (g .runs .now) (g .count) (b .i) (omega arith) (omega arith) in
-    sym (replays-end (g .size) (g .n) (g .m) (take (g .n) (g .cells .now)) (b .scan) (b .prev)) ∙ rw e at (b .inv .2)
+    sym (replays-end (g .size) (g .n) (g .m) (take (g .n) (drop (g .from) (g .cells .now))) (b .scan) (b .prev)) ∙ rw e at (b .inv .2)
 
 pub replays-to-spec : {M : Type 1} → statement M
 replays-to-spec =
@@ -101,6 +108,7 @@ replays-to-spec =
     cast-more
     sub-if1
     returns
+    slice-aggregate-keeps-rules
     keeps-rules-requires
     end-of-requires
     add-i

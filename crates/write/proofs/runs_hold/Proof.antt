@@ -10,6 +10,10 @@ use Rattle.write.proofs.runs_hold.Statement.{statement}
 use Rattle.write.proofs.runs_hold.Tie as tie
 use Rattle.write.proofs.runs_hold.Reads as reads
 use Rattle.write.proofs.runs_hold.Lts as lts
+use Rattle.rules.proofs.replays_to.Reads as replays-to-reads
+use Rattle.write.proofs.area.Reads as area-reads
+use Rattle.write.proofs.greatest.Reads as greatest-reads
+use Rattle.write.proofs.widened.Reads as widened-reads
 
 greatest-requires : tie.Need-greatest-requires
 greatest-requires c κs = fit (c .before .args .cu) (c .before .pre .0) .entries
@@ -29,14 +33,20 @@ returns-2 c =
 area-requires : tie.Need-area-requires
 area-requires c κs = fit (c .before .before .before .before .args .cu) (c .before .before .before .before .pre .0) .small
 
+widened-requires : tie.Need-widened-requires
+widened-requires c κs = search needs
+
+slice-aggregate-replays-to : tie.Need-slice-aggregate-replays-to
+slice-aggregate-replays-to c = search needs
+
 replays-to-requires : tie.Need-replays-to-requires
-replays-to-requires c κs = (fit (c .before .before .before .before .before .before .before .args .cu) (c .before .before .before .before .before .before .before .pre .0) .least, fit (c .before .before .before .before .before .before .before .args .cu) (c .before .before .before .before .before .before .before .pre .0) .small, c .before .before .area .ensures .0, c .before .before .area .ensures .1, omega arith, omega (arith, c .before .before .before .before .before .greatest .ensures .1), omega arith)
+replays-to-requires c κs = (fit (c .before .before .before .before .before .before .before .before .args .cu) (c .before .before .before .before .before .before .before .before .pre .0) .least, fit (c .before .before .before .before .before .before .before .before .args .cu) (c .before .before .before .before .before .before .before .before .pre .0) .small, c .before .before .before .area .ensures .0, c .before .before .before .area .ensures .1, omega arith, search needs, omega arith, omega (arith, c .before .before .before .before .before .before .greatest .ensures .1), omega arith)
 
 returns-3 : tie.Need-returns-3
 unfolding maxIndex
 returns-3 c =
-    let o : 0 < maxIndex (c .before .before .before .before .before .before .before .before .args .cu) = omega (arith, c .before .before .before .before .before .before .greatest .ensures .0) in
-    runs-tested (c .before .before .before .before .before .before .before .before .args .cu) (runsOf (c .before .before .before .before .before .before .before .before .args .runs .now) (c .before .before .before .before .before .before .before .before .args .count)) (c .before .before .before .before .before .before .before .before .args .count) _ o (omega arith) (rw (c .before .before .before .area .ensures .0, c .before .before .before .before .before .before .greatest .ensures .0) at (c .replays-to .ensures))
+    let o : 0 < maxIndex (c .before .before .before .before .before .before .before .before .before .args .cu) = omega (arith, c .before .before .before .before .before .before .before .greatest .ensures .0) in
+    runs-tested (c .before .before .before .before .before .before .before .before .before .args .cu) (runsOf (c .before .before .before .before .before .before .before .before .before .args .runs .now) (c .before .before .before .before .before .before .before .before .before .args .count)) (c .before .before .before .before .before .before .before .before .before .args .count) _ o (omega arith) (rw (c .before .before .before .before .area .ensures .0, c .before .before .before .before .before .before .before .greatest .ensures .0) at (rw (c .before .before .widened .ensures) at (c .replays-to .ensures)))
 
 pub runs-hold-spec : {M : Type 1} → statement M
 runs-hold-spec =
@@ -46,5 +56,7 @@ runs-hold-spec =
     returns
     returns-2
     area-requires
+    widened-requires
+    slice-aggregate-replays-to
     replays-to-requires
     returns-3)
