@@ -6,21 +6,24 @@ use Rattle.flat.specs.Flat.{blockOf}
 use Rattle.flatplan.specs.Flat.{runsOf}
 use Rattle.model.specs.Whole.{maxIndex}
 use Rattle.write.specs.Laws.{fit, runs-ignored, runs-tested}
-use Rattle.flatwrite.specs.Lists.{small}
+use Rattle.flatwrite.specs.Lists.{small, cells-are}
 use borrow.Author.Needs.{needs}
 use Rattle.flatwrite.proofs.runs_hold.Statement.{statement}
 use Rattle.flatwrite.proofs.runs_hold.Tie as tie
 use Rattle.flatwrite.proofs.runs_hold.Reads as reads
 use Rattle.flatwrite.proofs.runs_hold.Lts as lts
+use Rattle.rules.proofs.replays_to.Reads as replays-to-reads
+use Rattle.write.proofs.area.Reads as area-reads
+use Rattle.write.proofs.greatest.Reads as greatest-reads
 
 shared-slice-read-greatest : tie.Need-shared-slice-read-greatest
-shared-slice-read-greatest c = let s = small (c .before .before .before .args .block .now) (c .before .before .before .pre .together) in omega (arith, s .size, s .entries, c .before .before .before .pre .block)
+shared-slice-read-greatest c = search needs
 
 cast-greatest : tie.Need-cast-greatest
 cast-greatest c = let s = small (c .before .before .before .args .block .now) (c .before .before .before .pre .together) in omega (arith, s .size, s .entries, c .before .before .before .pre .block)
 
 shared-slice-read-greatest-2 : tie.Need-shared-slice-read-greatest-2
-shared-slice-read-greatest-2 c = let s = small (c .before .before .before .before .args .block .now) (c .before .before .before .before .pre .together) in omega (arith, s .size, s .entries, c .before .before .before .before .pre .block)
+shared-slice-read-greatest-2 c = search needs
 
 greatest-requires : tie.Need-greatest-requires
 greatest-requires c κs = small (c .before .before .before .before .args .block .now) (c .before .before .before .before .pre .together) .entries
@@ -32,7 +35,7 @@ returns c =
     runs-ignored (blockOf (c .before .before .before .before .before .before .args .block .now)) (runsOf (c .before .before .before .before .before .before .args .runs .now) (c .before .before .before .before .before .before .args .count)) (c .before .before .before .before .before .before .args .count) e
 
 shared-slice-read-size : tie.Need-shared-slice-read-size
-shared-slice-read-size c = let s = small (c .before .before .before .before .before .before .before .args .block .now) (c .before .before .before .before .before .before .before .pre .together) in omega (arith, s .size, s .entries, c .before .before .before .before .before .before .before .pre .block)
+shared-slice-read-size c = search needs
 
 cast-size : tie.Need-cast-size
 cast-size c = let s = small (c .before .before .before .before .before .before .before .args .block .now) (c .before .before .before .before .before .before .before .pre .together) in omega (arith, s .size, s .entries, c .before .before .before .before .before .before .before .pre .block)
@@ -40,18 +43,15 @@ cast-size c = let s = small (c .before .before .before .before .before .before .
 area-requires : tie.Need-area-requires
 area-requires c κs = small (c .before .before .before .before .before .before .before .args .block .now) (c .before .before .before .before .before .before .before .pre .together) .size
 
-indices-of-requires : tie.Need-indices-of-requires
-indices-of-requires c κs = c .before .before .before .before .before .before .before .before .pre .block
-
 replays-to-requires : tie.Need-replays-to-requires
 unfolding blockOf
-replays-to-requires c κs = (fit (blockOf (c .before .before .before .before .before .before .before .before .before .before .args .block .now)) (c .before .before .before .before .before .before .before .before .before .before .pre .together) .least, fit (blockOf (c .before .before .before .before .before .before .before .before .before .before .args .block .now)) (c .before .before .before .before .before .before .before .before .before .before .pre .together) .small, c .before .before .area .ensures .0, c .before .before .area .ensures .1, c .before .before .before .before .before .before .before .before .before .before .pre .few, omega (arith, c .before .before .before .before .before .greatest .ensures .1), c .before .before .before .before .before .before .before .before .before .before .pre .runs)
+replays-to-requires c κs = (fit (blockOf (c .before .before .before .before .before .before .before .before .args .block .now)) (c .before .before .before .before .before .before .before .before .pre .together) .least, fit (blockOf (c .before .before .before .before .before .before .before .before .args .block .now)) (c .before .before .before .before .before .before .before .before .pre .together) .small, c .area .ensures .0, c .area .ensures .1, omega arith, omega (arith, c .before .before .before .before .before .before .before .before .pre .block), c .before .before .before .before .before .before .before .before .pre .few, omega (arith, c .before .before .before .greatest .ensures .1), c .before .before .before .before .before .before .before .before .pre .runs)
 
 returns-2 : tie.Need-returns-2
 unfolding maxIndex blockOf
 returns-2 c =
-    let o : 0 < maxIndex (blockOf (c .before .before .before .before .before .before .before .before .before .before .before .args .block .now)) = omega (arith, c .before .before .before .before .before .before .greatest .ensures .0) in
-    runs-tested (blockOf (c .before .before .before .before .before .before .before .before .before .before .before .args .block .now)) (runsOf (c .before .before .before .before .before .before .before .before .before .before .before .args .runs .now) (c .before .before .before .before .before .before .before .before .before .before .before .args .count)) (c .before .before .before .before .before .before .before .before .before .before .before .args .count) _ o (c .before .before .before .before .before .before .before .before .before .before .before .pre .few) (rw (c .before .before .before .area .ensures .0, c .before .before .before .before .before .before .greatest .ensures .0, c .before .before .indices-of .ensures) at (c .replays-to .ensures))
+    let o : 0 < maxIndex (blockOf (c .before .before .before .before .before .before .before .before .before .args .block .now)) = omega (arith, c .before .before .before .before .greatest .ensures .0) in
+    runs-tested (blockOf (c .before .before .before .before .before .before .before .before .before .args .block .now)) (runsOf (c .before .before .before .before .before .before .before .before .before .args .runs .now) (c .before .before .before .before .before .before .before .before .before .args .count)) (c .before .before .before .before .before .before .before .before .before .args .count) _ o (c .before .before .before .before .before .before .before .before .before .pre .few) (rw (cells-are (c .before .before .before .before .before .before .before .before .before .args .block .now) (c .before .area .result) (c .before .before .before .before .before .before .before .before .before .pre .block) (c .before .before .before .before .before .before .before .before .before .pre .together) (c .before .area .ensures .0) (c .before .area .ensures .1), c .before .area .ensures .0, c .before .before .before .before .greatest .ensures .0) at (c .replays-to .ensures))
 
 pub runs-hold-spec : {M : Type 1} → statement M
 runs-hold-spec =
@@ -65,6 +65,5 @@ runs-hold-spec =
     shared-slice-read-size
     cast-size
     area-requires
-    indices-of-requires
     replays-to-requires
     returns-2)
