@@ -1,7 +1,7 @@
 -- `put::lay_more`: the four high bits, then the others.
 use mathlib.Core.Path.{_≡_}
 use native.Mathlib.Omega.{arith}
-use Rattle.put.specs.Joined.{sets-bits}
+use Rattle.put.specs.Straight.{sets-bits}
 use borrow.Author.Needs.{needs}
 use Rattle.put.proofs.lay_more.Statement.{statement}
 use Rattle.put.proofs.lay_more.Tie as tie
