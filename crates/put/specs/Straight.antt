@@ -20,9 +20,6 @@ module _ (l : List ℕ) (at a b : ℕ) where
   pub sets-four : (c d : ℕ) → set (set (set (set l at a) (at + 1) b) (at + 2) c) (at + 3) d ≡ sets l at (a ∷ b ∷ c ∷ d ∷ [])
   sets-four c d = ap (λ (m : List ℕ). set m (at + 3) d) (sets-three c) ∙ sets-append (a ∷ b ∷ c ∷ []) (d ∷ []) l at
 
-  pub sets-five : (c d e : ℕ) → set (set (set (set (set l at a) (at + 1) b) (at + 2) c) (at + 3) d) (at + 4) e ≡ sets l at (a ∷ b ∷ c ∷ d ∷ e ∷ [])
-  sets-five c d e = ap (λ (m : List ℕ). set m (at + 4) e) (sets-four c d) ∙ sets-append (a ∷ b ∷ c ∷ d ∷ []) (e ∷ []) l at
-
 pub bits-append : (a b v : ℕ) → bits (a + b) v ≡ bits a (v / 2 ^ b) ++ bits b v
 unfolding bits
 bits-append zero b v = rw zero-add

@@ -1,7 +1,6 @@
 -- `put::put_bits`: straight where there is room for at most eight bits, else each by itself.
-use mathlib.Core.Path.{_≡_, ap, sym, _∙_}
+use mathlib.Core.Path.{ap, sym}
 use Prim.Native.Nat.{ℕ, _+_}
-use Rattle.h265.specs.Strings.{bits}
 use Rattle.h265.specs.StringLaws.{length-bits}
 use borrow.Author.Needs.{needs}
 use Rattle.put.proofs.put_bits.Statement.{statement}
