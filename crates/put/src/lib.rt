@@ -119,19 +119,18 @@ pub fn put_bits(list: &mut [u8], at: usize, value: u32, n: u32) -> usize
     requires { ⌜ (n ≤ 32) × (at + 32 < 2 ^ 63) ⌝ }
     ensures { λ r. ⌜ Laid (now (list .entry)) at (bits n value) r (now (list .exit)) ⌝ }
 {
-    let end = at + n as usize;
-    if 8 < n {
-        return put_each(list, at, value, n);
+    if n <= 8 {
+        let end = at + n as usize;
+        if end <= list.len() {
+            if n < 5 {
+                lay_few(list, at, value, n);
+                return end;
+            }
+            lay_more(list, at, value, n);
+            return end;
+        }
     }
-    if list.len() < end {
-        return put_each(list, at, value, n);
-    }
-    if n < 5 {
-        lay_few(list, at, value, n);
-        return end;
-    }
-    lay_more(list, at, value, n);
-    end
+    put_each(list, at, value, n)
 }
 
 // Truncated binary over n values.

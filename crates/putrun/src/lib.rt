@@ -102,13 +102,12 @@ fn put_prefix(list: &mut [u8], at: usize, most: u32, ones: u32, above: bool, sen
     ensures laid { λ r. ⌜ Laid (now (list .entry)) at (unary (runClass above sent) 0 most ones) r (now (list .exit)) ⌝ }
     ensures near { λ r. ⌜ r ≤ at + 32 ⌝ }
 {
-    if 4 < ones {
-        return put_bins(list, at, most, ones, above, sent);
+    if ones <= 4 {
+        if at + 8 <= list.len() {
+            return lay_prefix(list, at, most, ones, above, sent);
+        }
     }
-    if list.len() < at + 8 {
-        return put_bins(list, at, most, ones, above, sent);
-    }
-    lay_prefix(list, at, most, ones, above, sent)
+    put_bins(list, at, most, ones, above, sent)
 }
 
 // The suffix of a run of `more` further cells of at most `longest`.

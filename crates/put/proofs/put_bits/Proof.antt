@@ -14,56 +14,44 @@ use Rattle.put.proofs.put_each.Reads as put-each-reads
 add-end : tie.Need-add-end
 add-end c = search needs
 
-put-each-requires : tie.Need-put-each-requires
-put-each-requires c κs = search needs
+lay-few-requires : tie.Need-lay-few-requires
+lay-few-requires c κs = search needs
 
 same-length : tie.Need-same-length
 same-length c = search needs
 
 returns : tie.Need-returns
-returns c = search needs
+returns c = record { next = ap (λ (x : ℕ). c .before .before .before .before .before .before .before .before .args .at + x) (sym (length-bits (c .before .before .before .before .before .before .before .before .args .n) (c .before .before .before .before .before .before .before .before .args .value))); after = c .before .before .lay-few .ensures }
 
-put-each-requires-2 : tie.Need-put-each-requires-2
-put-each-requires-2 c κs = search needs
+lay-more-requires : tie.Need-lay-more-requires
+lay-more-requires c κs = search needs
 
 same-length-2 : tie.Need-same-length-2
 same-length-2 c = search needs
 
 returns-2 : tie.Need-returns-2
-returns-2 c = search needs
+returns-2 c = record { next = ap (λ (x : ℕ). c .before .before .before .before .before .before .before .before .args .at + x) (sym (length-bits (c .before .before .before .before .before .before .before .before .args .n) (c .before .before .before .before .before .before .before .before .args .value))); after = c .before .before .lay-more .ensures }
 
-lay-few-requires : tie.Need-lay-few-requires
-lay-few-requires c κs = search needs
+put-each-requires : tie.Need-put-each-requires
+put-each-requires c κs = search needs
 
 same-length-3 : tie.Need-same-length-3
 same-length-3 c = search needs
 
 returns-3 : tie.Need-returns-3
-returns-3 c = record { next = ap (λ (x : ℕ). c .before .before .before .before .before .before .before .before .args .at + x) (sym (length-bits (c .before .before .before .before .before .before .before .before .args .n) (c .before .before .before .before .before .before .before .before .args .value))); after = c .before .before .lay-few .ensures }
-
-lay-more-requires : tie.Need-lay-more-requires
-lay-more-requires c κs = search needs
-
-same-length-4 : tie.Need-same-length-4
-same-length-4 c = search needs
-
-returns-4 : tie.Need-returns-4
-returns-4 c = record { next = ap (λ (x : ℕ). c .before .before .before .before .before .before .before .before .args .at + x) (sym (length-bits (c .before .before .before .before .before .before .before .before .args .n) (c .before .before .before .before .before .before .before .before .args .value))); after = c .before .before .lay-more .ensures }
+returns-3 c = search needs
 
 pub put-bits-spec : {M : Type 1} → statement M
 put-bits-spec =
     tie.close
     (tie.spec
     add-end
-    put-each-requires
+    lay-few-requires
     same-length
     returns
-    put-each-requires-2
+    lay-more-requires
     same-length-2
     returns-2
-    lay-few-requires
+    put-each-requires
     same-length-3
-    returns-3
-    lay-more-requires
-    same-length-4
-    returns-4)
+    returns-3)
