@@ -1,6 +1,8 @@
 // The writer of a run's length, palette_run_prefix with palette_run_suffix, onto a lent bin list.
 ghost use mathlib.Core.Path.{_≡_};
-ghost use Prim.Native.Nat.{_+_, _^_, _≤_, _<_};
+ghost use Prim.Native.Nat.{_+_, _*_, _^_, _≤_, _<_};
+ghost use lib.ListN.{length};
+ghost use lib.Seq.{sets};
 ghost use Rattle.base.specs.Laid.{Laid};
 ghost use Rattle.h265.specs.Strings.{unary, runClass, prefixOf, suffixBins, runBins};
 ghost use Rattle.putrun.specs.Word.{wordFrom};
@@ -8,6 +10,7 @@ use bins::flog;
 use bins::pow2;
 use bins::suffixes;
 use put::put_bin;
+use put::put_bits;
 use put::put_tb;
 
 // The bytes of the prefix's zeros in base 256, that of bin 0 lowest.
@@ -26,8 +29,55 @@ fn word_of(above: bool, sent: u32) -> u64
     60365212682
 }
 
-// The prefix in truncated unary: `ones` of at most `most`, each bin of its class.
-fn put_prefix(list: &mut [u8], at: usize, most: u32, ones: u32, above: bool, sent: u32) -> usize
+// At most four ones, each of its class, where the list has room for them; answers the byte of the zero that may follow.
+fn lay_ones(list: &mut [u8], at: usize, ones: u32, above: bool, sent: u32) -> u8
+    requires { ⌜ (ones ≤ 4) × (at + ones ≤ length (now list)) ⌝ }
+    ensures laid { λ r. ⌜ now (list .exit) ≡ sets (now (list .entry)) at (unary (runClass above sent) 0 ones ones) ⌝ }
+    ensures stop { λ r. ⌜ r ≡ runClass above sent ones * 2 ⌝ }
+{
+    let w = word_of(above, sent);
+    if ones == 0 {
+        return (w % 256) as u8;
+    }
+    if ones == 1 {
+        list[at] = (w % 256) as u8 + 1;
+        return ((w >> 8) % 256) as u8;
+    }
+    if ones == 2 {
+        list[at] = (w % 256) as u8 + 1;
+        list[at + 1] = ((w >> 8) % 256) as u8 + 1;
+        return ((w >> 16) % 256) as u8;
+    }
+    if ones == 3 {
+        list[at] = (w % 256) as u8 + 1;
+        list[at + 1] = ((w >> 8) % 256) as u8 + 1;
+        list[at + 2] = ((w >> 16) % 256) as u8 + 1;
+        return ((w >> 24) % 256) as u8;
+    }
+    list[at] = (w % 256) as u8 + 1;
+    list[at + 1] = ((w >> 8) % 256) as u8 + 1;
+    list[at + 2] = ((w >> 16) % 256) as u8 + 1;
+    list[at + 3] = ((w >> 24) % 256) as u8 + 1;
+    ((w >> 32) % 256) as u8
+}
+
+// The prefix of at most four ones where the list has room for it.
+fn lay_prefix(list: &mut [u8], at: usize, most: u32, ones: u32, above: bool, sent: u32) -> usize
+    requires { ⌜ (ones ≤ 4) × (ones ≤ most) × (at + 8 ≤ length (now list)) × (at + 32 < 2 ^ 63) ⌝ }
+    ensures laid { λ r. ⌜ Laid (now (list .entry)) at (unary (runClass above sent) 0 most ones) r (now (list .exit)) ⌝ }
+    ensures near { λ r. ⌜ r ≤ at + 32 ⌝ }
+{
+    let byte = lay_ones(list, at, ones, above, sent);
+    let to = at + ones as usize;
+    if ones < most {
+        list[to] = byte;
+        return to + 1;
+    }
+    to
+}
+
+// The prefix, each bin stored where the list has room for it.
+fn put_bins(list: &mut [u8], at: usize, most: u32, ones: u32, above: bool, sent: u32) -> usize
     requires { ⌜ (ones ≤ most) × (most ≤ 32) × (at + 32 < 2 ^ 63) ⌝ }
     ensures laid { λ r. ⌜ Laid (now (list .entry)) at (unary (runClass above sent) 0 most ones) r (now (list .exit)) ⌝ }
     ensures near { λ r. ⌜ r ≤ at + 32 ⌝ }
@@ -46,6 +96,20 @@ fn put_prefix(list: &mut [u8], at: usize, most: u32, ones: u32, above: bool, sen
     to
 }
 
+// The prefix in truncated unary: `ones` of at most `most`, each bin of its class.
+fn put_prefix(list: &mut [u8], at: usize, most: u32, ones: u32, above: bool, sent: u32) -> usize
+    requires { ⌜ (ones ≤ most) × (most ≤ 32) × (at + 32 < 2 ^ 63) ⌝ }
+    ensures laid { λ r. ⌜ Laid (now (list .entry)) at (unary (runClass above sent) 0 most ones) r (now (list .exit)) ⌝ }
+    ensures near { λ r. ⌜ r ≤ at + 32 ⌝ }
+{
+    if ones <= 4 {
+        if at + 8 <= list.len() {
+            return lay_prefix(list, at, most, ones, above, sent);
+        }
+    }
+    put_bins(list, at, most, ones, above, sent)
+}
+
 // The suffix of a run of `more` further cells of at most `longest`.
 fn put_suffix(list: &mut [u8], at: usize, longest: u32, more: u32) -> usize
     requires { ⌜ (more ≤ longest) × (longest ≤ 1024) × (at + 32 < 2 ^ 63) ⌝ }
@@ -55,7 +119,11 @@ fn put_suffix(list: &mut [u8], at: usize, longest: u32, more: u32) -> usize
     if more == 0 {
         return at;
     }
-    let p = pow2(flog(more));
+    let k = flog(more);
+    let p = pow2(k);
+    if 2 * p <= longest {
+        return put_bits(list, at, more - p, k);
+    }
     put_tb(list, at, suffixes(longest, p), more - p)
 }
 

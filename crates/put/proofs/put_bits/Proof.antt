@@ -1,69 +1,57 @@
--- `put::put_bits`: high bit first.
-use mathlib.Core.Path.{_≡_, refl, _∙_}
-use Prim.Native.Nat.{_+_, _-_, _≤_}
-use native.Mathlib.Omega.{arith}
-use lib.ListN.{length}
-use Rattle.base.specs.Laid.{Left, left-start, left-turn, left-end}
-use Rattle.h265.specs.Strings.{bits}
-use Rattle.h265.specs.StringLaws.{bits-cons}
+-- `put::put_bits`: straight where there is room for at most eight bits, else each by itself.
+use mathlib.Core.Path.{ap, sym}
+use Prim.Native.Nat.{ℕ, _+_}
+use Rattle.h265.specs.StringLaws.{length-bits}
 use borrow.Author.Needs.{needs}
 use Rattle.put.proofs.put_bits.Statement.{statement}
 use Rattle.put.proofs.put_bits.Tie as tie
 use Rattle.put.proofs.put_bits.Reads as reads
 use Rattle.put.proofs.put_bits.Lts as lts
-use Rattle.put.proofs.put_bin.Reads as put-bin-reads
+use Rattle.put.proofs.lay_few.Reads as lay-few-reads
+use Rattle.put.proofs.lay_more.Reads as lay-more-reads
+use Rattle.put.proofs.put_each.Reads as put-each-reads
 
-abbrev Inv-loop : tie.InvT-loop
-Inv-loop list₀ at value n to₀ i₀ list to i = (to + i ≡ at + n) × (i ≤ n) × (length list ≡ length list₀) × Left list₀ at (bits n value) list to (bits i value)
+add-end : tie.Need-add-end
+add-end c = search needs
 
-abbrev μ-loop : tie.MeasureT-loop
-μ-loop list₀ at value n to₀ i₀ list to i = i
+lay-few-requires : tie.Need-lay-few-requires
+lay-few-requires c κs = search needs
 
-loop-holds : tie.Need-loop-holds Inv-loop μ-loop
-loop-holds c = (refl, omega arith, refl, left-start _ _ _)
+same-length : tie.Need-same-length
+same-length c = search needs
 
-sub-i : tie.Need-sub-i Inv-loop μ-loop
-sub-i c = omega arith
+returns : tie.Need-returns
+returns c = record { next = ap (λ (x : ℕ). c .before .before .before .before .before .before .before .before .args .at + x) (sym (length-bits (c .before .before .before .before .before .before .before .before .args .n) (c .before .before .before .before .before .before .before .before .args .value))); after = c .before .before .lay-few .ensures }
 
-shr-put-bin : tie.Need-shr-put-bin Inv-loop μ-loop
-shr-put-bin c = omega arith
+lay-more-requires : tie.Need-lay-more-requires
+lay-more-requires c κs = search needs
 
-cast-put-bin : tie.Need-cast-put-bin Inv-loop μ-loop
-cast-put-bin c = omega arith
+same-length-2 : tie.Need-same-length-2
+same-length-2 c = search needs
 
-put-bin-requires : tie.Need-put-bin-requires Inv-loop μ-loop
-put-bin-requires c κs = omega arith
+returns-2 : tie.Need-returns-2
+returns-2 c = record { next = ap (λ (x : ℕ). c .before .before .before .before .before .before .before .before .args .at + x) (sym (length-bits (c .before .before .before .before .before .before .before .before .args .n) (c .before .before .before .before .before .before .before .before .args .value))); after = c .before .before .lay-more .ensures }
 
-loop-less : tie.Need-loop-less Inv-loop μ-loop
-loop-less c = omega arith
+put-each-requires : tie.Need-put-each-requires
+put-each-requires c κs = search needs
 
-loop-again : tie.Need-loop-again Inv-loop μ-loop
-loop-again c =
-    let b = c .before .before .before .before .before .loop in
-    let d = c .before .before .put-bin .ensures in
-    (omega (arith, d .next), omega arith, c .before .before .put-bin .kept .0 ∙ b .inv .2, left-turn (bits (b .i - 1) (c .before .before .before .before .before .before .before .args .value)) d (rw (bits-cons (b .i) (c .before .before .before .before .before .before .before .args .value) (omega arith)) at (b .inv .3)))
+same-length-3 : tie.Need-same-length-3
+same-length-3 c = search needs
 
-same-length : tie.Need-same-length Inv-loop μ-loop
-same-length c = c .before .loop .inv .2
-
-returns : tie.Need-returns Inv-loop μ-loop
-unfolding bits
-returns c =
-    let z : c .before .loop .i ≡ 0 = omega arith in
-    left-end (rw z at (c .before .loop .inv .3))
+returns-3 : tie.Need-returns-3
+returns-3 c = search needs
 
 pub put-bits-spec : {M : Type 1} → statement M
 put-bits-spec =
     tie.close
     (tie.spec
-    Inv-loop
-    μ-loop
-    loop-holds
-    sub-i
-    shr-put-bin
-    cast-put-bin
-    put-bin-requires
-    loop-less
-    loop-again
+    add-end
+    lay-few-requires
     same-length
-    returns)
+    returns
+    lay-more-requires
+    same-length-2
+    returns-2
+    put-each-requires
+    same-length-3
+    returns-3)

@@ -1,4 +1,4 @@
--- `putrun::put_prefix`: ones, then a zero unless they are the most. The word's lowest byte is that of the next bin.
+-- `putrun::put_bins`: ones, then a zero unless they are the most. The word's lowest byte is that of the next bin.
 use mathlib.Core.Path.{_≡_, refl, _∙_}
 use Prim.Native.Nat.{_+_, _-_, _*_, _/_, _%_, _≤_}
 use native.Mathlib.Omega.{arith}
@@ -9,10 +9,10 @@ use Rattle.h265.specs.Strings.{unary, runClass}
 use Rattle.h265.specs.StringLaws.{unary-more, unary-stop, unary-full}
 use Rattle.putrun.specs.Word.{wordFrom, word-next, class-most}
 use borrow.Author.Needs.{needs}
-use Rattle.putrun.proofs.put_prefix.Statement.{statement}
-use Rattle.putrun.proofs.put_prefix.Tie as tie
-use Rattle.putrun.proofs.put_prefix.Reads as reads
-use Rattle.putrun.proofs.put_prefix.Lts as lts
+use Rattle.putrun.proofs.put_bins.Statement.{statement}
+use Rattle.putrun.proofs.put_bins.Tie as tie
+use Rattle.putrun.proofs.put_bins.Reads as reads
+use Rattle.putrun.proofs.put_bins.Lts as lts
 
 abbrev Inv-loop : tie.InvT-loop
 Inv-loop list₀ at most ones above sent to₀ i₀ w₀ list to i w = (i ≤ ones) × (to ≡ at + i) × (length list ≡ length list₀) × Left list₀ at (unary (runClass above sent) 0 most ones) list to (unary (runClass above sent) i (most - i) (ones - i)) × (w ≡ wordFrom above sent i)
@@ -86,8 +86,8 @@ returns-2 c =
     let g = c .before .before .before .before .before .args in
     (left-end (rw (unary-full (runClass (g .above) (g .sent)) (b .i) (g .most - b .i) (g .ones - b .i) (omega arith)) at (b .inv .3)), omega arith)
 
-pub put-prefix-spec : {M : Type 1} → statement M
-put-prefix-spec =
+pub put-bins-spec : {M : Type 1} → statement M
+put-bins-spec =
     tie.close
     (tie.spec
     Inv-loop
