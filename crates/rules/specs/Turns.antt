@@ -1,22 +1,24 @@
 -- The cells above, one turn of the list's test, and that a test of the first n cells is one of the list's.
 use mathlib.Core.Path.{_≡_, refl, sym, _∙_}
-use mathlib.Core.Bool.{Bool, true, false}
+use mathlib.Core.Bool.{Bool, true, false, _&&_}
 use mathlib.Core.Logic.{⊎-elim}
 use mathlib.Core.List.{List, [], _∷_}
 use Prim.Native.Nat.{ℕ, zero, suc, _+_, _-_, _*_, _/_, _≤_, _<_}
 use native.Mathlib.Nat.{le-refl, one-mul, add-mul, mul-le-mul}
 use native.Mathlib.Omega.{arith}
 use lib.Dec.{ltb, eqb}
+use lib.Bits.{bitOr}
 use lib.ListN.{length, getD, take, set, replicate}
 use lib.Seq.{getD-take, getD-set-same, getD-set-other}
 use borrow.Author.Tests.{lt-ltb, le-ltb}
 use Rattle.base.specs.Pick.{pick, either, lt-or-le}
-use Rattle.syntax.specs.Runs.{Run}
+use Rattle.syntax.specs.Runs.{Run, mayCopy}
 use Rattle.syntax.specs.Replay.{reference, lessOne}
 use Rattle.h265.specs.Scan.{rowOf, aboveAt}
 use Rattle.h265.specs.ScanLaws.{place-row, above-closed}
 use Rattle.syntax.specs.ReplayLaws.{above-take, replays-le}
 use Rattle.syntax.specs.Test.{both, copied, drawn, sentRight, rules, replays, replays-rules}
+use Rattle.rules.specs.Collect.{both-and, both-assoc, both-false, or-none}
 
 -- ---- the cells above, laid out once
 
@@ -85,27 +87,65 @@ unfolding sentRight
 sent-take size m n xs zero prev sent z h = rw (getD-take n xs 0 0 h)
 sent-take size m n xs (suc s) prev sent z h = rw (getD-take n xs (suc s) 0 h, reference-in size prev n xs (suc s) z (omega arith) (omega arith))
 
-pub rules-take : (size m n : ℕ) (xs : List ℕ) (scan : ℕ) (prev : Bool) (r : Run) → 0 < size → scan + r .more + 1 ≤ n → rules size m (take n xs) scan prev r ≡ rules size m xs scan prev r
+rules-take : (size m n : ℕ) (xs : List ℕ) (scan : ℕ) (prev : Bool) (r : Run) → 0 < size → scan + r .more + 1 ≤ n → rules size m (take n xs) scan prev r ≡ rules size m xs scan prev r
 unfolding rules
 rules-take size m n xs scan prev r z h =
     rw (copied-take size n xs (suc (r .more)) scan z (omega arith), sent-take size m n xs scan prev (r .sent) z (omega arith), getD-take n xs scan 0 (omega arith), drawn-take (getD xs scan 0) n xs (suc (r .more)) scan (omega arith))
 
--- ---- one turn of the list's test
+-- ---- the rules in two parts
 
-module _ (size n m : ℕ) (xs : List ℕ) (scan : ℕ) (prev : Bool) (r : Run) (rs : List Run) where
-  pub replays-on : rules size m xs scan prev r ≡ true → replays size n m xs scan prev (r ∷ rs) ≡ replays size n m xs (scan + r .more + 1) (r .above) rs
+-- what a run may be at its start, its other cells not looked at
+unfoldable pub starts : ℕ → ℕ → List ℕ → ℕ → Bool → Run → Bool
+starts size m xs scan prev r = both (eqb (r .start) scan) (pick (r .above) (both (mayCopy size scan prev) (eqb (r .sent) 0)) (sentRight size m xs scan prev (r .sent)))
+
+-- the k cells of a run
+unfoldable pub holds : ℕ → List ℕ → ℕ → Bool → ℕ → Bool
+holds size xs scan above k = pick above (copied size xs k scan) (drawn (getD xs scan 0) xs k scan)
+
+parts : (s p a b c d e : Bool) → both s (pick p (both a (both b c)) (both d e)) ≡ both (both s (pick p (both a b) d)) (pick p c e)
+unfolding both
+parts false p a b c d e = refl
+parts true true a b c d e = sym (both-assoc a b c)
+parts true false a b c d e = refl
+
+module _ (size m n : ℕ) (xs : List ℕ) (scan : ℕ) (prev : Bool) (r : Run) (z : 0 < size) (h : scan + r .more + 1 ≤ n) where
+  rules-parts : rules size m (take n xs) scan prev r ≡ both (starts size m xs scan prev r) (holds size xs scan (r .above) (suc (r .more)))
+  unfolding rules starts holds
+  rules-parts =
+      rules-take size m n xs scan prev r z h
+      ∙ parts (eqb (r .start) scan) (r .above) (mayCopy size scan prev) (eqb (r .sent) 0) (copied size xs (suc (r .more)) scan) (sentRight size m xs scan prev (r .sent)) (drawn (getD xs scan 0) xs (suc (r .more)) scan)
+
+  pub rules-holds : (ok : Bool) (d : ℕ) → ok ≡ starts size m xs scan prev r → ok ≡ true → eqb d 0 ≡ holds size xs scan (r .above) (suc (r .more)) → eqb d 0 ≡ rules size m (take n xs) scan prev r
+  unfolding both
+  rules-holds ok d e t x = rw (rules-parts, ← e, t) x
+
+  pub rules-not : (ok : Bool) → ok ≡ starts size m xs scan prev r → ok ≡ false → rules size m (take n xs) scan prev r ≡ false
+  unfolding both
+  rules-not ok e t = rw (rules-parts, ← e, t)
+
+-- ---- one turn of the list's test, where `bad` is 0 if the cells so far are as the runs say
+
+module _ (size n m : ℕ) (xs : List ℕ) (scan : ℕ) (prev : Bool) (r : Run) (rs : List Run) (bad : ℕ) where
+  pub replays-on : (d : ℕ) → eqb d 0 ≡ rules size m xs scan prev r → both (eqb (bitOr bad d) 0) (replays size n m xs (scan + r .more + 1) (r .above) rs) ≡ both (eqb bad 0) (replays size n m xs scan prev (r ∷ rs))
+  unfolding replays
+  replays-on d h = rw (or-none bad d, ← h) (both-assoc (eqb bad 0) (eqb d 0) (replays size n m xs (scan + r .more + 1) (r .above) rs))
+
+  pub replays-not : rules size m xs scan prev r ≡ false → both (eqb bad 0) (replays size n m xs scan prev (r ∷ rs)) ≡ false
   unfolding replays both
-  replays-on h = rw h
+  replays-not h = rw h (both-false (eqb bad 0))
 
-  pub replays-not : rules size m xs scan prev r ≡ false → replays size n m xs scan prev (r ∷ rs) ≡ false
-  unfolding replays both
-  replays-not h = rw h
-
-  pub replays-over : n < scan + r .more + 1 → replays size n m xs scan prev (r ∷ rs) ≡ false
-  replays-over h = either (replays size n m xs scan prev (r ∷ rs)) (λ t.
+  over : n < scan + r .more + 1 → replays size n m xs scan prev (r ∷ rs) ≡ false
+  over h = either (replays size n m xs scan prev (r ∷ rs)) (λ t.
       let k = replays-rules size n m xs scan prev (r ∷ rs) t in
       absurd (omega (arith, replays-le size n m xs (scan + r .more + 1) (r .above) rs (k .1)))) (λ t. t)
 
-pub replays-end : (size n m : ℕ) (xs : List ℕ) (scan : ℕ) (prev : Bool) → replays size n m xs scan prev [] ≡ eqb scan n
+  pub replays-over : n < scan + r .more + 1 → both (eqb bad 0) (replays size n m xs scan prev (r ∷ rs)) ≡ false
+  replays-over h = rw (over h) (both-false (eqb bad 0))
+
+pub replays-first : (b : Bool) → both (eqb 0 0) b ≡ b
+unfolding both
+replays-first b = refl
+
+pub replays-end : (size n m : ℕ) (xs : List ℕ) (scan : ℕ) (prev : Bool) (bad : ℕ) → eqb bad 0 && eqb scan n ≡ both (eqb bad 0) (replays size n m xs scan prev [])
 unfolding replays
-replays-end size n m xs scan prev = refl
+replays-end size n m xs scan prev bad = both-and (eqb bad 0) (eqb scan n)

@@ -1,16 +1,18 @@
 -- Four numbers below 65536 as one word, and tests of several cells at once by words.
 use mathlib.Core.Path.{_≡_, refl, ap, sym, _∙_}
-use mathlib.Core.Bool.{Bool, true, false, _&&_}
+use mathlib.Core.Bool.{Bool, true}
 use mathlib.Core.List.{List}
 use Prim.Native.Nat.{ℕ, zero, suc, _+_, _-_, _*_, _%_, _^_, _≤_, _<_}
 use native.Mathlib.Omega.{arith}
 use lib.Dec.{eqb}
+use lib.Bits.{bitOr, bitXor}
 use lib.ListN.{getD, drop}
 use lib.Seq.{getD-drop}
 use borrow.Author.Tests.{eq-eqb, ne-eqb, eqb-true, eqb-false}
 use Rattle.base.specs.Pick.{either}
 use Rattle.h265.specs.Scan.{aboveAt}
 use Rattle.syntax.specs.Test.{both, copied, drawn}
+use Rattle.rules.specs.Collect.{both-assoc, both-unit, test-same, or-none, xor-none}
 use Rattle.rules.specs.Turns.{Above}
 
 -- ---- the numbers from a place on are the same
@@ -19,23 +21,8 @@ unfoldable pub same : (ℕ → ℕ) → (ℕ → ℕ) → ℕ → ℕ → Bool
 same f g zero i = true
 same f g (suc k) i = both (eqb (f i) (g i)) (same f g k (suc i))
 
-both-and : (a b : Bool) → a && b ≡ both a b
-unfolding both
-both-and true b = refl
-both-and false b = refl
-
-both-assoc : (a b c : Bool) → both (both a b) c ≡ both a (both b c)
-unfolding both
-both-assoc true b c = refl
-both-assoc false b c = refl
-
-both-unit : (a : Bool) → both a true ≡ a
-unfolding both
-both-unit true = refl
-both-unit false = refl
-
 module _ (f g : ℕ → ℕ) where
-  pub same-none : (k i : ℕ) → k ≡ 0 → true ≡ same f g k i
+  pub same-none : (k i : ℕ) → k ≡ 0 → eqb 0 0 ≡ same f g k i
   unfolding same
   same-none k i e = rw e
 
@@ -51,11 +38,11 @@ module _ (f g : ℕ → ℕ) where
       rw (z, y) (ap (both (eqb (f i) (g i))) (same-join k l (suc i)) ∙ sym (both-assoc (eqb (f i) (g i)) (same f g k (suc i)) (same f g l (suc i + k))))
 
   -- a test of the numbers up to i and one of those from there to the end
-  pub same-on : (ok t : Bool) (at i to : ℕ) → at ≤ i → i ≤ to → ok ≡ same f g (i - at) at → t ≡ same f g (to - i) i → ok && t ≡ same f g (to - at) at
-  same-on ok t at i to h l e x =
+  pub same-on : (bad d at i to : ℕ) → at ≤ i → i ≤ to → eqb bad 0 ≡ same f g (i - at) at → eqb d 0 ≡ same f g (to - i) i → eqb (bitOr bad d) 0 ≡ same f g (to - at) at
+  same-on bad d at i to h l e x =
       let z : to - at ≡ (i - at) + (to - i) = omega arith in
       let y : at + (i - at) ≡ i = omega arith in
-      both-and ok t ∙ rw (z, same-join (i - at) (to - i) at, y, e, x)
+      or-none bad d ∙ rw (z, same-join (i - at) (to - i) at, y, e, x)
 
 -- what stands at a place of a list
 abbrev pub cellAt : List ℕ → ℕ → ℕ
@@ -134,8 +121,8 @@ module _ (f g : ℕ → ℕ) (i w w′ : ℕ) (x : Word (f i) (f (i + 1)) (f (i 
       rw (z, v, u, both-unit (eqb (f (i + 3)) (g (i + 3))), ← digit (f (i + 2)) (f (i + 3)) (g (i + 2)) (g (i + 3)) (x .third) (y .third), ← digit (f (i + 1)) (f (i + 2) + 65536 * f (i + 3)) (g (i + 1)) (g (i + 2) + 65536 * g (i + 3)) (x .second) (y .second), x .is, y .is) (sym (digit (f i) (f (i + 1) + 65536 * (f (i + 2) + 65536 * f (i + 3))) (g i) (g (i + 1) + 65536 * (g (i + 2) + 65536 * g (i + 3))) (x .first) (y .first)))
 
   -- two words are the same where their four numbers are
-  pub word-same : (k : ℕ) → k ≡ 4 → eqb w w′ ≡ same f g k i
-  word-same k e = rw e (sym four)
+  pub word-same : (k : ℕ) → k ≡ 4 → eqb (bitXor w w′) 0 ≡ same f g k i
+  word-same k e = rw e (xor-none w w′ ∙ sym four)
 
   -- so are their first k numbers
   pub first-same : (k : ℕ) → 1 ≤ k → k ≤ 4 → eqb (w % 2 ^ (16 * k)) (w′ % 2 ^ (16 * k)) ≡ same f g k i
@@ -160,11 +147,7 @@ module _ (f g : ℕ → ℕ) (i w w′ : ℕ) (x : Word (f i) (f (i + 1)) (f (i 
 
 -- ---- the first numbers of two words, by shifting the others out
 
-test-same : (a b c d : ℕ) → (a ≡ b → c ≡ d) → (c ≡ d → a ≡ b) → eqb a b ≡ eqb c d
-test-same a b c d f g = either (eqb c d) (λ t. rw t (eq-eqb a b (g (eqb-true c d t)))) (λ t. rw t (ne-eqb a b (λ z. eqb-false c d t (f z))))
-
--- only the first k numbers of a word are left by a shift
-pub shifted-same : (a b k s : ℕ) → 1 ≤ k → k ≤ 4 → s ≡ 64 - 16 * k → eqb (a * 2 ^ s % 2 ^ 64) (b * 2 ^ s % 2 ^ 64) ≡ eqb (a % 2 ^ (16 * k)) (b % 2 ^ (16 * k))
+shifted-same : (a b k s : ℕ) → 1 ≤ k → k ≤ 4 → s ≡ 64 - 16 * k → eqb (a * 2 ^ s % 2 ^ 64) (b * 2 ^ s % 2 ^ 64) ≡ eqb (a % 2 ^ (16 * k)) (b % 2 ^ (16 * k))
 shifted-same a b zero s o h e = absurd (omega arith)
 shifted-same a b (suc zero) s o h e =
     let u : a * 281474976710656 % 18446744073709551616 ≡ a % 65536 * 281474976710656 = omega arith in
@@ -183,3 +166,7 @@ shifted-same a b (suc (suc (suc (suc zero)))) s o h e =
     let v : b * 1 ≡ b = omega arith in
     rw (e, u, v)
 shifted-same a b (suc (suc (suc (suc (suc k))))) s o h e = absurd (omega arith)
+
+-- only the first k numbers of two words are left by a shift
+pub shifted-none : (a b k s : ℕ) → 1 ≤ k → k ≤ 4 → s ≡ 64 - 16 * k → eqb (bitXor (a * 2 ^ s % 2 ^ 64) (b * 2 ^ s % 2 ^ 64)) 0 ≡ eqb (a % 2 ^ (16 * k)) (b % 2 ^ (16 * k))
+shifted-none a b k s o h e = xor-none (a * 2 ^ s % 2 ^ 64) (b * 2 ^ s % 2 ^ 64) ∙ shifted-same a b k s o h e

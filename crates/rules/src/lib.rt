@@ -7,10 +7,11 @@ ghost use lib.ListN.{length, take, drop, getD};
 ghost use Rattle.base.specs.Pick.{pick};
 ghost use Rattle.flatplan.specs.Flat.{firstOf};
 ghost use Rattle.syntax.specs.Replay.{lessOne};
-ghost use Rattle.syntax.specs.Test.{copied, drawn, rules, replays};
-ghost use Rattle.rules.specs.Turns.{Above, sentAs};
+ghost use Rattle.syntax.specs.Test.{copied, drawn, replays};
+ghost use Rattle.rules.specs.Turns.{Above, sentAs, starts, holds};
 ghost use Rattle.rules.specs.Words.{Word, WordAt};
 use flatplan::run_in;
+use model::PaletteRun;
 use runstate::end_of;
 
 // The cells above row r: the row before it, the other way round.
@@ -59,50 +60,62 @@ fn four_times(v: u16) -> u64
     (v as u64) * 281479271743489
 }
 
-// Whether the first k numbers of two words are the same.
-fn first_same(a: u64, b: u64, k: usize) -> bool
+// 0 where the first k numbers of two words are the same.
+fn first_differ(a: u64, b: u64, k: usize) -> u64
     requires { ⌜ (1 ≤ k) × (k ≤ 4) ⌝ }
-    ensures { λ r. ⌜ r ≡ eqb (a % 2 ^ (16 * k)) (b % 2 ^ (16 * k)) ⌝ }
+    ensures { λ r. ⌜ eqb r 0 ≡ eqb (a % 2 ^ (16 * k)) (b % 2 ^ (16 * k)) ⌝ }
 {
     let s = (64 - 16 * k) as u64;
-    (a << s) == (b << s)
+    (a << s) ^ (b << s)
 }
 
-// Whether each cell of a run holds the index above it.
-fn copied_run(cells: &[u16], from: usize, up: &[u16], at: usize, to: usize) -> bool
+// 0 where each cell of a run holds the index above it.
+fn copied_run(cells: &[u16], from: usize, up: &[u16], at: usize, to: usize) -> u64
     requires { ⌜ (at < to) × (to ≤ 1024) × (from + 1028 ≤ length (now cells)) × (1028 ≤ length (now up)) ⌝ }
-    ensures { λ r. ⌜ ((size : ℕ) → Above size (drop from (now (cells .entry))) (now (up .entry)) to → r ≡ copied size (drop from (now (cells .entry))) (to - at) at) ⌝ }
+    ensures { λ r. ⌜ ((size : ℕ) → Above size (drop from (now (cells .entry))) (now (up .entry)) to → eqb r 0 ≡ copied size (drop from (now (cells .entry))) (to - at) at) ⌝ }
 {
-    let mut ok = true;
+    let mut bad: u64 = 0;
     let mut i = at;
     while i + 4 < to {
         let a = word(cells, from + i);
         let b = word(up, i);
-        ok = ok & (a == b);
+        bad = bad | (a ^ b);
         i += 4;
     }
     let a = word(cells, from + i);
     let b = word(up, i);
-    let last = first_same(a, b, to - i);
-    ok & last
+    let last = first_differ(a, b, to - i);
+    bad | last
 }
 
-// Whether each cell of a run holds v.
-fn drawn_run(cells: &[u16], from: usize, v: u16, at: usize, to: usize) -> bool
+// 0 where each cell of a run holds v.
+fn drawn_run(cells: &[u16], from: usize, v: u16, at: usize, to: usize) -> u64
     requires { ⌜ (at < to) × (to ≤ 1024) × (from + 1028 ≤ length (now cells)) ⌝ }
-    ensures { λ r. ⌜ r ≡ drawn v (drop from (now (cells .entry))) (to - at) at ⌝ }
+    ensures { λ r. ⌜ eqb r 0 ≡ drawn v (drop from (now (cells .entry))) (to - at) at ⌝ }
 {
     let four = four_times(v);
-    let mut ok = true;
+    let mut bad: u64 = 0;
     let mut i = at;
     while i + 4 < to {
         let a = word(cells, from + i);
-        ok = ok & (a == four);
+        bad = bad | (a ^ four);
         i += 4;
     }
     let a = word(cells, from + i);
-    let last = first_same(a, four, to - i);
-    ok & last
+    let last = first_differ(a, four, to - i);
+    bad | last
+}
+
+// 0 where the cells of a run are as it says.
+fn run_differs(cells: &[u16], from: usize, up: &[u16], above: bool, at: usize, to: usize) -> u64
+    requires { ⌜ (at < to) × (to ≤ 1024) × (from + 1028 ≤ length (now cells)) × (1028 ≤ length (now up)) ⌝ }
+    ensures { λ r. ⌜ ((size : ℕ) → Above size (drop from (now (cells .entry))) (now (up .entry)) to → eqb r 0 ≡ holds size (drop from (now (cells .entry))) at above (to - at)) ⌝ }
+{
+    if above {
+        return copied_run(cells, from, up, at, to);
+    }
+    let v = cells[from + at];
+    drawn_run(cells, from, v, at, to)
 }
 
 // The index sent for v: one less where v is above its reference.
@@ -150,8 +163,8 @@ fn sent_right(v: u16, f: u16, m: u32, scan: usize, sent: u32) -> bool
     false
 }
 
-// Whether a run keeps the rules at place `scan`.
-fn keeps_rules(
+// Whether a run may start at place `scan`, its other cells not looked at.
+fn may_start(
     cells: &[u16],
     from: usize,
     up: &[u16],
@@ -159,35 +172,25 @@ fn keeps_rules(
     m: u32,
     scan: usize,
     prev: bool,
-    above: bool,
-    sent: u32,
-    more: u32,
-    start: u32,
+    r: PaletteRun,
 ) -> bool
-    requires { ⌜ (scan + more + 1 ≤ 1024) × (m ≤ 1024) × (from + 1028 ≤ length (now cells)) × (1028 ≤ length (now up)) × Above size (drop from (now cells)) (now up) (scan + more + 1) ⌝ }
-    ensures { λ r. ⌜ r ≡ rules size m (drop from (now (cells .entry))) scan prev (record { above = above; sent = sent; more = more; start = start }) ⌝ }
+    requires { ⌜ (scan < 1024) × (m ≤ 1024) × (from + 1028 ≤ length (now cells)) × (1028 ≤ length (now up)) × Above size (drop from (now cells)) (now up) (scan + 1) ⌝ }
+    ensures { λ ok. ⌜ ok ≡ starts size m (drop from (now (cells .entry))) scan prev r ⌝ }
 {
-    let to = end_of(scan, more);
-    let s = start as usize;
+    let s = r.start as usize;
     if s == scan {
-        if above {
+        if r.above {
             if prev {
                 return false;
             }
             if scan < size {
                 return false;
             }
-            if sent == 0 {
-                return copied_run(cells, from, up, scan, to);
-            }
-            return false;
+            return r.sent == 0;
         }
         let v = cells[from + scan];
         let f = reference_in(cells, from, up, prev, scan);
-        if sent_right(v, f, m, scan, sent) {
-            return drawn_run(cells, from, v, scan, to);
-        }
-        return false;
+        return sent_right(v, f, m, scan, r.sent);
     }
     false
 }
@@ -206,6 +209,7 @@ pub fn replays_to(
     ensures { λ r. ⌜ r ≡ replays size n m (take n (drop from (now (cells .entry)))) 0 false (firstOf (now (runs .entry)) count) ⌝ }
 {
     let up = rows_above(cells, from, size);
+    let mut bad: u64 = 0;
     let mut i: usize = 0;
     let mut scan: usize = 0;
     let mut prev = false;
@@ -215,25 +219,16 @@ pub fn replays_to(
         if n - scan <= more {
             return false;
         }
-        if keeps_rules(
-            cells,
-            from,
-            &up,
-            size,
-            m,
-            scan,
-            prev,
-            r.above,
-            r.sent,
-            r.more,
-            r.start,
-        ) {
-            scan = end_of(scan, r.more);
+        if may_start(cells, from, &up, size, m, scan, prev, r) {
+            let to = end_of(scan, r.more);
+            let d = run_differs(cells, from, &up, r.above, scan, to);
+            bad = bad | d;
+            scan = to;
             prev = r.above;
             i += 1;
         } else {
             return false;
         }
     }
-    scan == n
+    (bad == 0) & (scan == n)
 }

@@ -2,6 +2,7 @@
 use mathlib.Core.Path.{_≡_, sym, _∙_}
 use Prim.Native.Nat.{_+_, _-_, _<_, _≤_}
 use native.Mathlib.Omega.{arith}
+use lib.Dec.{eqb}
 use lib.ListN.{drop}
 use Rattle.rules.specs.Words.{same, cellAt, same-none, same-on, word-drop, word-same, first-same, copied-same}
 use borrow.Author.Needs.{needs}
@@ -9,14 +10,14 @@ use Rattle.rules.proofs.copied_run.Statement.{statement}
 use Rattle.rules.proofs.copied_run.Tie as tie
 use Rattle.rules.proofs.copied_run.Reads as reads
 use Rattle.rules.proofs.copied_run.Lts as lts
-use Rattle.rules.proofs.first_same.Reads as first-same-reads
+use Rattle.rules.proofs.first_differ.Reads as first-differ-reads
 use Rattle.rules.proofs.word.Reads as word-reads
 
 abbrev Inv-loop : tie.InvT-loop
-Inv-loop cells from up at to ok₀ i₀ ok i = (at ≤ i) × (i < to) × (ok ≡ same (cellAt (drop from cells)) (cellAt up) (i - at) at)
+Inv-loop cells from up at to bad₀ i₀ bad i = (at ≤ i) × (i < to) × (eqb bad 0 ≡ same (cellAt (drop from cells)) (cellAt up) (i - at) at)
 
 abbrev μ-loop : tie.MeasureT-loop
-μ-loop cells from up at to ok₀ i₀ ok i = to - i
+μ-loop cells from up at to bad₀ i₀ bad i = to - i
 
 loop-holds : tie.Need-loop-holds Inv-loop μ-loop
 loop-holds c = (omega arith, omega arith, same-none (cellAt (drop (c .before .before .args .from) (c .before .before .args .cells .now))) (cellAt (c .before .before .args .up .now)) (c .before .before .args .at - c .before .before .args .at) (c .before .before .args .at) (omega arith))
@@ -45,7 +46,7 @@ loop-again c =
     let l = c .before .before .before .loop in
     let xs = drop (g .from) (g .cells .now) in
     let e = word-same (cellAt xs) (cellAt (g .up .now)) (l .i) _ _ (word-drop (g .from) (g .cells .now) (l .i) _ (c .before .word .ensures)) (c .word2 .ensures) (l .i + 4 - l .i) (omega arith) in
-    (omega arith, omega arith, same-on (cellAt xs) (cellAt (g .up .now)) (l .ok) _ (g .at) (l .i) (l .i + 4) (l .inv .0) (omega arith) (l .inv .2) e)
+    (omega arith, omega arith, same-on (cellAt xs) (cellAt (g .up .now)) (l .bad) _ (g .at) (l .i) (l .i + 4) (l .inv .0) (omega arith) (l .inv .2) e)
 
 add-word-2 : tie.Need-add-word-2 Inv-loop μ-loop
 add-word-2 c = omega arith
@@ -56,19 +57,19 @@ word-requires-3 c κs = omega arith
 word-requires-4 : tie.Need-word-requires-4 Inv-loop μ-loop
 word-requires-4 c κs = omega arith
 
-sub-first-same : tie.Need-sub-first-same Inv-loop μ-loop
-sub-first-same c = omega arith
+sub-first-differ : tie.Need-sub-first-differ Inv-loop μ-loop
+sub-first-differ c = omega arith
 
-first-same-requires : tie.Need-first-same-requires Inv-loop μ-loop
-first-same-requires c κs = omega arith
+first-differ-requires : tie.Need-first-differ-requires Inv-loop μ-loop
+first-differ-requires c κs = omega arith
 
 returns : tie.Need-returns Inv-loop μ-loop
 returns c =
     let g = c .before .before .before .before .before .before .before .args in
     let l = c .before .before .before .before .loop in
     let xs = drop (g .from) (g .cells .now) in
-    let e = c .first-same .ensures ∙ first-same (cellAt xs) (cellAt (g .up .now)) (l .i) _ _ (word-drop (g .from) (g .cells .now) (l .i) _ (c .before .before .word3 .ensures)) (c .before .word4 .ensures) (g .to - l .i) (omega arith) (omega arith) in
-    let t = same-on (cellAt xs) (cellAt (g .up .now)) (l .ok) _ (g .at) (l .i) (g .to) (l .inv .0) (omega arith) (l .inv .2) e in
+    let e = c .first-differ .ensures ∙ first-same (cellAt xs) (cellAt (g .up .now)) (l .i) _ _ (word-drop (g .from) (g .cells .now) (l .i) _ (c .before .before .word3 .ensures)) (c .before .word4 .ensures) (g .to - l .i) (omega arith) (omega arith) in
+    let t = same-on (cellAt xs) (cellAt (g .up .now)) (l .bad) _ (g .at) (l .i) (g .to) (l .inv .0) (omega arith) (l .inv .2) e in
     λ size a. t ∙ copied-same size xs (g .up .now) (g .to - g .at) (g .at) (λ i h. a i (omega arith))
 
 pub copied-run-spec : {M : Type 1} → statement M
@@ -88,6 +89,6 @@ copied-run-spec =
     add-word-2
     word-requires-3
     word-requires-4
-    sub-first-same
-    first-same-requires
+    sub-first-differ
+    first-differ-requires
     returns)

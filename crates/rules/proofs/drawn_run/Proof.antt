@@ -2,6 +2,7 @@
 use mathlib.Core.Path.{_≡_, sym, _∙_}
 use Prim.Native.Nat.{_+_, _-_, _<_, _≤_}
 use native.Mathlib.Omega.{arith}
+use lib.Dec.{eqb}
 use lib.ListN.{drop}
 use Rattle.rules.specs.Words.{same, cellAt, always, same-none, same-on, word-drop, word-same, first-same, drawn-same}
 use borrow.Author.Needs.{needs}
@@ -9,15 +10,15 @@ use Rattle.rules.proofs.drawn_run.Statement.{statement}
 use Rattle.rules.proofs.drawn_run.Tie as tie
 use Rattle.rules.proofs.drawn_run.Reads as reads
 use Rattle.rules.proofs.drawn_run.Lts as lts
-use Rattle.rules.proofs.first_same.Reads as first-same-reads
+use Rattle.rules.proofs.first_differ.Reads as first-differ-reads
 use Rattle.rules.proofs.four_times.Reads as four-times-reads
 use Rattle.rules.proofs.word.Reads as word-reads
 
 abbrev Inv-loop : tie.InvT-loop
-Inv-loop cells from v at to four ok₀ i₀ ok i = (at ≤ i) × (i < to) × (ok ≡ same (cellAt (drop from cells)) (always v) (i - at) at)
+Inv-loop cells from v at to four bad₀ i₀ bad i = (at ≤ i) × (i < to) × (eqb bad 0 ≡ same (cellAt (drop from cells)) (always v) (i - at) at)
 
 abbrev μ-loop : tie.MeasureT-loop
-μ-loop cells from v at to four ok₀ i₀ ok i = to - i
+μ-loop cells from v at to four bad₀ i₀ bad i = to - i
 
 four-times-requires : tie.Need-four-times-requires Inv-loop μ-loop
 four-times-requires c κs = search needs
@@ -46,7 +47,7 @@ loop-again c =
     let l = c .before .before .loop in
     let xs = drop (g .from) (g .cells .now) in
     let e = word-same (cellAt xs) (always (g .v)) (l .i) _ _ (word-drop (g .from) (g .cells .now) (l .i) _ (c .word .ensures)) (c .before .before .before .four-times .ensures) (l .i + 4 - l .i) (omega arith) in
-    (omega arith, omega arith, same-on (cellAt xs) (always (g .v)) (l .ok) _ (g .at) (l .i) (l .i + 4) (l .inv .0) (omega arith) (l .inv .2) e)
+    (omega arith, omega arith, same-on (cellAt xs) (always (g .v)) (l .bad) _ (g .at) (l .i) (l .i + 4) (l .inv .0) (omega arith) (l .inv .2) e)
 
 add-word-2 : tie.Need-add-word-2 Inv-loop μ-loop
 add-word-2 c = omega arith
@@ -54,19 +55,19 @@ add-word-2 c = omega arith
 word-requires-2 : tie.Need-word-requires-2 Inv-loop μ-loop
 word-requires-2 c κs = omega arith
 
-sub-first-same : tie.Need-sub-first-same Inv-loop μ-loop
-sub-first-same c = omega arith
+sub-first-differ : tie.Need-sub-first-differ Inv-loop μ-loop
+sub-first-differ c = omega arith
 
-first-same-requires : tie.Need-first-same-requires Inv-loop μ-loop
-first-same-requires c κs = omega arith
+first-differ-requires : tie.Need-first-differ-requires Inv-loop μ-loop
+first-differ-requires c κs = omega arith
 
 returns : tie.Need-returns Inv-loop μ-loop
 returns c =
     let g = c .before .before .before .before .before .before .args in
     let l = c .before .before .before .loop in
     let xs = drop (g .from) (g .cells .now) in
-    let e = c .first-same .ensures ∙ first-same (cellAt xs) (always (g .v)) (l .i) _ _ (word-drop (g .from) (g .cells .now) (l .i) _ (c .before .word2 .ensures)) (c .before .before .before .before .four-times .ensures) (g .to - l .i) (omega arith) (omega arith) in
-    same-on (cellAt xs) (always (g .v)) (l .ok) _ (g .at) (l .i) (g .to) (l .inv .0) (omega arith) (l .inv .2) e ∙ drawn-same (g .v) xs (g .to - g .at) (g .at)
+    let e = c .first-differ .ensures ∙ first-same (cellAt xs) (always (g .v)) (l .i) _ _ (word-drop (g .from) (g .cells .now) (l .i) _ (c .before .word2 .ensures)) (c .before .before .before .before .four-times .ensures) (g .to - l .i) (omega arith) (omega arith) in
+    same-on (cellAt xs) (always (g .v)) (l .bad) _ (g .at) (l .i) (g .to) (l .inv .0) (omega arith) (l .inv .2) e ∙ drawn-same (g .v) xs (g .to - g .at) (g .at)
 
 pub drawn-run-spec : {M : Type 1} → statement M
 drawn-run-spec =
@@ -84,6 +85,6 @@ drawn-run-spec =
     loop-again
     add-word-2
     word-requires-2
-    sub-first-same
-    first-same-requires
+    sub-first-differ
+    first-differ-requires
     returns)
