@@ -45,7 +45,6 @@ palette-long b = laid-length _ _ 0 64 ∙ length-replicate 64 noColor
 byte-own : (x : ℕ) → byte x ≤ 64 → x ≡ byte x
 byte-own x h = ⊎-elim (λ (l : x < 255). sym (min-eq-left (omega arith))) (λ (l : 255 ≤ x). let e : byte x ≡ 255 = min-eq-right l in absurd (omega arith)) (lt-or-le x 255)
 
-
 -- the bounds of a block's numbers
 pub record Small (b : List ℕ) : Type 0 where
   pub size : number b 0 ≤ 32
