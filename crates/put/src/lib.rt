@@ -1,10 +1,10 @@
 // Bins onto a lent list. A bin past the list's end is not stored, and counted all the same: a writer asks no room and answers the place after its last bin.
 ghost use mathlib.Core.List.{[], _∷_};
 ghost use mathlib.Core.Path.{_≡_};
-ghost use Prim.Native.Nat.{_+_, _^_, _≤_, _<_};
+ghost use Prim.Native.Nat.{_+_, _%_, _^_, _≤_, _<_};
 ghost use lib.ListN.{length};
 ghost use lib.Seq.{sets};
-ghost use Rattle.base.specs.Laid.{Laid};
+ghost use Rattle.base.specs.Laid.{Laid, Left};
 ghost use Rattle.h265.specs.Strings.{bits, tb};
 use bins::flog;
 use bins::pow2;
@@ -21,33 +21,6 @@ pub fn put_bin(list: &mut [u8], at: usize, byte: u8) -> usize
     at + 1
 }
 
-// One bit where the list has room for it.
-fn lay_one(list: &mut [u8], at: usize, value: u32)
-    requires { ⌜ at + 1 ≤ length (now list) ⌝ }
-    ensures { λ _. ⌜ now (list .exit) ≡ sets (now (list .entry)) at (bits 1 value) ⌝ }
-{
-    list[at] = (value % 2) as u8;
-}
-
-// Two bits where the list has room for them.
-fn lay_two(list: &mut [u8], at: usize, value: u32)
-    requires { ⌜ at + 2 ≤ length (now list) ⌝ }
-    ensures { λ _. ⌜ now (list .exit) ≡ sets (now (list .entry)) at (bits 2 value) ⌝ }
-{
-    list[at] = ((value >> 1) % 2) as u8;
-    list[at + 1] = (value % 2) as u8;
-}
-
-// Three bits where the list has room for them.
-fn lay_three(list: &mut [u8], at: usize, value: u32)
-    requires { ⌜ at + 3 ≤ length (now list) ⌝ }
-    ensures { λ _. ⌜ now (list .exit) ≡ sets (now (list .entry)) at (bits 3 value) ⌝ }
-{
-    list[at] = ((value >> 2) % 2) as u8;
-    list[at + 1] = ((value >> 1) % 2) as u8;
-    list[at + 2] = (value % 2) as u8;
-}
-
 // Four bits where the list has room for them.
 fn lay_four(list: &mut [u8], at: usize, value: u32)
     requires { ⌜ at + 4 ≤ length (now list) ⌝ }
@@ -59,59 +32,68 @@ fn lay_four(list: &mut [u8], at: usize, value: u32)
     list[at + 3] = (value % 2) as u8;
 }
 
-// At most four bits where the list has room for them: a straight line of stores for each n.
-fn lay_few(list: &mut [u8], at: usize, value: u32, n: u32)
-    requires { ⌜ (n ≤ 4) × (at + n ≤ length (now list)) ⌝ }
-    ensures { λ _. ⌜ now (list .exit) ≡ sets (now (list .entry)) at (bits n value) ⌝ }
+// Two bits where the list has room for them.
+fn lay_two(list: &mut [u8], at: usize, value: u32)
+    requires { ⌜ at + 2 ≤ length (now list) ⌝ }
+    ensures { λ _. ⌜ now (list .exit) ≡ sets (now (list .entry)) at (bits 2 value) ⌝ }
 {
-    if n == 0 {
-        return;
-    }
-    if n == 1 {
-        return lay_one(list, at, value);
-    }
-    if n == 2 {
-        return lay_two(list, at, value);
-    }
-    if n == 3 {
-        return lay_three(list, at, value);
-    }
-    lay_four(list, at, value)
+    list[at] = ((value >> 1) % 2) as u8;
+    list[at + 1] = (value % 2) as u8;
 }
 
-// Five to eight bits where the list has room for them: a straight line of stores for each n.
-fn lay_more(list: &mut [u8], at: usize, value: u32, n: u32)
-    requires { ⌜ (5 ≤ n) × (n ≤ 8) × (at + n ≤ length (now list)) ⌝ }
-    ensures { λ _. ⌜ now (list .exit) ≡ sets (now (list .entry)) at (bits n value) ⌝ }
+// The four high ones of 4 to 7 bits where the list has room for all; answers the place of the others.
+fn lay_quad(list: &mut [u8], at: usize, value: u32, n: u32) -> usize
+    requires { ⌜ (n ≤ 7) × (at + n ≤ length (now list)) ⌝ }
+    ensures { λ r. ⌜ Left (now (list .entry)) at (bits n value) (now (list .exit)) r (bits (n % 4) value) ⌝ }
 {
-    if n == 5 {
-        lay_four(list, at, value >> 1);
-        return lay_one(list, at + 4, value);
+    if 4 <= n {
+        lay_four(list, at, value >> (n - 4));
+        return at + 4;
     }
-    if n == 6 {
-        lay_four(list, at, value >> 2);
-        return lay_two(list, at + 4, value);
-    }
-    if n == 7 {
-        lay_four(list, at, value >> 3);
-        return lay_three(list, at + 4, value);
-    }
-    lay_four(list, at, value >> 4);
-    lay_four(list, at + 4, value)
+    at
 }
 
-// The n low bits, each stored where the list has room for it.
-fn put_each(list: &mut [u8], at: usize, value: u32, n: u32) -> usize
+// The two high ones of 2 or 3 bits where the list has room for all; answers the place of the other.
+fn lay_pair(list: &mut [u8], at: usize, value: u32, n: u32) -> usize
+    requires { ⌜ (n ≤ 3) × (at + n ≤ length (now list)) ⌝ }
+    ensures { λ r. ⌜ Left (now (list .entry)) at (bits n value) (now (list .exit)) r (bits (n % 2) value) ⌝ }
+{
+    if 2 <= n {
+        lay_two(list, at, value >> (n - 2));
+        return at + 2;
+    }
+    at
+}
+
+// At most one bit where the list has room for it; answers the place after it.
+fn lay_odd(list: &mut [u8], at: usize, value: u32, n: u32) -> usize
+    requires { ⌜ (n ≤ 1) × (at + n ≤ length (now list)) ⌝ }
+    ensures { λ r. ⌜ Laid (now (list .entry)) at (bits n value) r (now (list .exit)) ⌝ }
+{
+    if 1 <= n {
+        list[at] = (value % 2) as u8;
+        return at + 1;
+    }
+    at
+}
+
+// The n low bits, each stored where the list has room for it: the lowest after the others, eight with room straight.
+fn put_long(list: &mut [u8], at: usize, value: u32, n: u32) -> usize
     requires { ⌜ (n ≤ 32) × (at + 32 < 2 ^ 63) ⌝ }
     ensures { λ r. ⌜ Laid (now (list .entry)) at (bits n value) r (now (list .exit)) ⌝ }
 {
-    let mut to = at;
-    let mut i = n;
-    while 0 < i {
-        i -= 1;
-        to = put_bin(list, to, ((value >> i) % 2) as u8);
+    if n == 0 {
+        return at;
     }
-    to
+    if n == 8 {
+        if at + 8 <= list.len() {
+            lay_four(list, at, value >> 4);
+            lay_four(list, at + 4, value);
+            return at + 8;
+        }
+    }
+    let to = put_long(list, at, value >> 1, n - 1);
+    put_bin(list, to, (value % 2) as u8)
 }
 
 // Fixed length: the n low bits, high bit first.
@@ -119,18 +101,15 @@ pub fn put_bits(list: &mut [u8], at: usize, value: u32, n: u32) -> usize
     requires { ⌜ (n ≤ 32) × (at + 32 < 2 ^ 63) ⌝ }
     ensures { λ r. ⌜ Laid (now (list .entry)) at (bits n value) r (now (list .exit)) ⌝ }
 {
-    if n <= 8 {
-        let end = at + n as usize;
-        if end <= list.len() {
-            if n < 5 {
-                lay_few(list, at, value, n);
-                return end;
-            }
-            lay_more(list, at, value, n);
-            return end;
+    if n <= 7 {
+        if at + n as usize <= list.len() {
+            let few = n % 4;
+            let two = lay_quad(list, at, value, n);
+            let one = lay_pair(list, two, value, few);
+            return lay_odd(list, one, value, few % 2);
         }
     }
-    put_each(list, at, value, n)
+    put_long(list, at, value, n)
 }
 
 // Truncated binary over n values.

@@ -1,57 +1,54 @@
--- `put::put_bits`: straight where there is room for at most eight bits, else each by itself.
-use mathlib.Core.Path.{ap, sym}
-use Prim.Native.Nat.{ℕ, _+_}
+-- `put::put_bits`: the high four, the next two and the last of at most seven bits where there is room.
+use native.Mathlib.Omega.{arith}
+use Rattle.base.specs.Laid.{left-last}
 use Rattle.h265.specs.StringLaws.{length-bits}
 use borrow.Author.Needs.{needs}
 use Rattle.put.proofs.put_bits.Statement.{statement}
 use Rattle.put.proofs.put_bits.Tie as tie
 use Rattle.put.proofs.put_bits.Reads as reads
 use Rattle.put.proofs.put_bits.Lts as lts
-use Rattle.put.proofs.lay_few.Reads as lay-few-reads
-use Rattle.put.proofs.lay_more.Reads as lay-more-reads
-use Rattle.put.proofs.put_each.Reads as put-each-reads
+use Rattle.put.proofs.lay_odd.Reads as lay-odd-reads
+use Rattle.put.proofs.lay_pair.Reads as lay-pair-reads
+use Rattle.put.proofs.lay_quad.Reads as lay-quad-reads
+use Rattle.put.proofs.put_long.Reads as put-long-reads
 
-add-end : tie.Need-add-end
-add-end c = search needs
+add-if2 : tie.Need-add-if2
+add-if2 c = search needs
 
-lay-few-requires : tie.Need-lay-few-requires
-lay-few-requires c κs = search needs
+lay-quad-requires : tie.Need-lay-quad-requires
+lay-quad-requires c κs = search needs
+
+lay-pair-requires : tie.Need-lay-pair-requires
+lay-pair-requires c κs = (omega arith, omega (arith, rw (length-bits, length-bits) at (c .before .before .before .lay-quad .ensures .next), c .before .before .before .lay-quad .kept .0))
+
+lay-odd-requires : tie.Need-lay-odd-requires
+lay-odd-requires c κs = (omega arith, omega (arith, rw (length-bits, length-bits) at (c .before .before .before .before .before .before .before .lay-quad .ensures .next), c .before .before .before .before .before .before .before .lay-quad .kept .0, rw (length-bits, length-bits) at (c .before .before .before .lay-pair .ensures .next), c .before .before .before .lay-pair .kept .0))
 
 same-length : tie.Need-same-length
 same-length c = search needs
 
 returns : tie.Need-returns
-returns c = record { next = ap (λ (x : ℕ). c .before .before .before .before .before .before .before .before .args .at + x) (sym (length-bits (c .before .before .before .before .before .before .before .before .args .n) (c .before .before .before .before .before .before .before .before .args .value))); after = c .before .before .lay-few .ensures }
+returns c = left-last (left-last (c .before .before .lay-odd .ensures) (c .before .before .before .before .before .before .lay-pair .ensures)) (c .before .before .before .before .before .before .before .before .before .before .lay-quad .ensures)
 
-lay-more-requires : tie.Need-lay-more-requires
-lay-more-requires c κs = search needs
+put-long-requires : tie.Need-put-long-requires
+put-long-requires c κs = search needs
 
 same-length-2 : tie.Need-same-length-2
 same-length-2 c = search needs
 
 returns-2 : tie.Need-returns-2
-returns-2 c = record { next = ap (λ (x : ℕ). c .before .before .before .before .before .before .before .before .args .at + x) (sym (length-bits (c .before .before .before .before .before .before .before .before .args .n) (c .before .before .before .before .before .before .before .before .args .value))); after = c .before .before .lay-more .ensures }
-
-put-each-requires : tie.Need-put-each-requires
-put-each-requires c κs = search needs
-
-same-length-3 : tie.Need-same-length-3
-same-length-3 c = search needs
-
-returns-3 : tie.Need-returns-3
-returns-3 c = search needs
+returns-2 c = search needs
 
 pub put-bits-spec : {M : Type 1} → statement M
 put-bits-spec =
     tie.close
     (tie.spec
-    add-end
-    lay-few-requires
+    add-if2
+    lay-quad-requires
+    lay-pair-requires
+    lay-odd-requires
     same-length
     returns
-    lay-more-requires
+    put-long-requires
     same-length-2
-    returns-2
-    put-each-requires
-    same-length-3
-    returns-3)
+    returns-2)
