@@ -1,10 +1,11 @@
 // The writer of a run's length, palette_run_prefix with palette_run_suffix, onto a lent bin list.
+ghost use mathlib.Core.Bool.{Bool};
 ghost use mathlib.Core.Path.{_≡_};
-ghost use Prim.Native.Nat.{_+_, _*_, _^_, _≤_, _<_};
+ghost use Prim.Native.Nat.{ℕ, _+_, _-_, _*_, _^_, _≤_, _<_};
 ghost use lib.ListN.{length};
 ghost use lib.Seq.{sets};
 ghost use Rattle.base.specs.Laid.{Laid};
-ghost use Rattle.h265.specs.Strings.{unary, runClass, prefixOf, suffixBins, runBins};
+ghost use Rattle.h265.specs.Strings.{bits, unary, runClass, prefixOf, suffixBins, runBins};
 ghost use Rattle.putrun.specs.Word.{wordFrom};
 use bins::flog;
 use bins::pow2;
@@ -76,6 +77,39 @@ fn lay_prefix(list: &mut [u8], at: usize, most: u32, ones: u32, above: bool, sen
     to
 }
 
+// The first five ones, each of its class, where the list has room for them.
+fn lay_five(list: &mut [u8], at: usize, above: bool, sent: u32)
+    requires { ⌜ at + 5 ≤ length (now list) ⌝ }
+    ensures { λ _. ⌜ now (list .exit) ≡ sets (now (list .entry)) at (unary (runClass above sent) 0 5 5) ⌝ }
+{
+    let byte = lay_ones(list, at, 4, above, sent);
+    list[at + 4] = byte + 1;
+}
+
+// The zeros after the ones, one or none. From bin 5 on the bins are plain bits.
+fn stop_of(most: u32, ones: u32) -> u32
+    requires { ⌜ (ones ≤ 3) × (ones ≤ most) ⌝ }
+    ensures few { λ r. ⌜ r ≤ 1 ⌝ }
+    ensures plain { λ r. ⌜ ((above : Bool) (sent : ℕ) → unary (runClass above sent) 5 most ones ≡ bits (ones + r) (2 ^ (ones + r) - 1 - r)) ⌝ }
+{
+    if ones == most {
+        return 0;
+    }
+    1
+}
+
+// The prefix of five to eight ones where the list has room for five.
+fn lay_long(list: &mut [u8], at: usize, most: u32, ones: u32, above: bool, sent: u32) -> usize
+    requires { ⌜ (5 ≤ ones) × (ones ≤ 8) × (ones ≤ most) × (at + 5 ≤ length (now list)) × (at + 64 < 2 ^ 63) ⌝ }
+    ensures laid { λ r. ⌜ Laid (now (list .entry)) at (unary (runClass above sent) 0 most ones) r (now (list .exit)) ⌝ }
+    ensures near { λ r. ⌜ r ≤ at + 32 ⌝ }
+{
+    lay_five(list, at, above, sent);
+    let stop = stop_of(most - 5, ones - 5);
+    let k = ones - 5 + stop;
+    put_bits(list, at + 5, pow2(k) - 1 - stop, k)
+}
+
 // The prefix, each bin stored where the list has room for it.
 fn put_bins(list: &mut [u8], at: usize, most: u32, ones: u32, above: bool, sent: u32) -> usize
     requires { ⌜ (ones ≤ most) × (most ≤ 32) × (at + 32 < 2 ^ 63) ⌝ }
@@ -98,13 +132,19 @@ fn put_bins(list: &mut [u8], at: usize, most: u32, ones: u32, above: bool, sent:
 
 // The prefix in truncated unary: `ones` of at most `most`, each bin of its class.
 fn put_prefix(list: &mut [u8], at: usize, most: u32, ones: u32, above: bool, sent: u32) -> usize
-    requires { ⌜ (ones ≤ most) × (most ≤ 32) × (at + 32 < 2 ^ 63) ⌝ }
+    requires { ⌜ (ones ≤ most) × (most ≤ 32) × (at + 64 < 2 ^ 63) ⌝ }
     ensures laid { λ r. ⌜ Laid (now (list .entry)) at (unary (runClass above sent) 0 most ones) r (now (list .exit)) ⌝ }
     ensures near { λ r. ⌜ r ≤ at + 32 ⌝ }
 {
     if ones <= 4 {
         if at + 8 <= list.len() {
             return lay_prefix(list, at, most, ones, above, sent);
+        }
+    } else {
+        if ones <= 8 {
+            if at + 16 <= list.len() {
+                return lay_long(list, at, most, ones, above, sent);
+            }
         }
     }
     put_bins(list, at, most, ones, above, sent)
