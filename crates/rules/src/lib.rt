@@ -41,6 +41,17 @@ fn rows_above(cells: &[u16], from: usize, size: usize) -> [u16; 1028]
     up
 }
 
+// The index above each cell. A block of 32 is told apart, so that the length of its rows is known beforehand.
+fn cells_above(cells: &[u16], from: usize, size: usize) -> [u16; 1028]
+    requires { ⌜ (1 ≤ size) × (size ≤ 32) × (from + 1028 ≤ length (now cells)) ⌝ }
+    ensures { λ up. ⌜ Above size (drop from (now (cells .entry))) up (size * size) ⌝ }
+{
+    if size == 32 {
+        return rows_above(cells, from, 32);
+    }
+    rows_above(cells, from, size)
+}
+
 // The four numbers from place i on as one, the first lowest.
 fn word(list: &[u16], i: usize) -> u64
     requires { ⌜ i + 4 ≤ length (now list) ⌝ }
@@ -208,7 +219,7 @@ pub fn replays_to(
     requires { ⌜ (1 ≤ size) × (size ≤ 32) × (n ≡ size * size) × (n ≤ 1024) × (from ≤ 4432) × (from + 1028 ≤ length (now cells)) × (count ≤ 1024) × (m ≤ 1024) × (4 * count ≤ length (now runs)) ⌝ }
     ensures { λ r. ⌜ r ≡ replays size n m (take n (drop from (now (cells .entry)))) 0 false (firstOf (now (runs .entry)) count) ⌝ }
 {
-    let up = rows_above(cells, from, size);
+    let up = cells_above(cells, from, size);
     let mut bad: u64 = 0;
     let mut i: usize = 0;
     let mut scan: usize = 0;

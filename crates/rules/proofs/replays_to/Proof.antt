@@ -17,8 +17,8 @@ use Rattle.rules.proofs.replays_to.Tie as tie
 use Rattle.rules.proofs.replays_to.Reads as reads
 use Rattle.rules.proofs.replays_to.Lts as lts
 use Rattle.flatplan.proofs.run_in.Reads as run-in-reads
+use Rattle.rules.proofs.cells_above.Reads as cells-above-reads
 use Rattle.rules.proofs.may_start.Reads as may-start-reads
-use Rattle.rules.proofs.rows_above.Reads as rows-above-reads
 use Rattle.rules.proofs.run_differs.Reads as run-differs-reads
 use Rattle.runstate.proofs.end_of.Reads as end-of-reads
 
@@ -28,8 +28,8 @@ Inv-loop cells from size n m runs count up bad₀ i₀ scan₀ prev₀ bad i sca
 abbrev μ-loop : tie.MeasureT-loop
 μ-loop cells from size n m runs count up bad₀ i₀ scan₀ prev₀ bad i scan prev = count - i
 
-rows-above-requires : tie.Need-rows-above-requires Inv-loop μ-loop
-rows-above-requires c κs = omega arith
+cells-above-requires : tie.Need-cells-above-requires Inv-loop μ-loop
+cells-above-requires c κs = omega arith
 
 loop-holds : tie.Need-loop-holds Inv-loop μ-loop
 loop-holds c = (omega arith, omega arith, replays-first _)
@@ -59,7 +59,7 @@ slice-aggregate-may-start : tie.Need-slice-aggregate-may-start Inv-loop μ-loop
 slice-aggregate-may-start c = omega arith
 
 may-start-requires : tie.Need-may-start-requires Inv-loop μ-loop
-may-start-requires c κs = (omega arith, omega arith, omega arith, search needs, λ i h. c .before .before .before .before .before .before .rows-above .ensures i (omega (arith, c .before .before .before .before .before .before .before .before .before .pre .2)))
+may-start-requires c κs = (omega arith, omega arith, omega arith, search needs, λ i h. c .before .before .before .before .before .before .cells-above .ensures i (omega (arith, c .before .before .before .before .before .before .before .before .before .pre .2)))
 
 end-of-requires : tie.Need-end-of-requires Inv-loop μ-loop
 end-of-requires c κs = omega arith
@@ -84,7 +84,7 @@ loop-again c =
     let rs = drop (b .i + 1) (firstOf (g .runs .now) (g .count)) in
     let e = first-next (g .runs .now) (g .count) (b .i) (omega arith) (omega arith) ∙ ap (λ (z : Run). z ∷ rs) (sym (c .before .before .before .before .before .before .before .before .run-in .ensures)) in
     let a : c .before .before .end-of .result - b .scan ≡ suc (r .more) = omega (arith, c .before .before .end-of .ensures) in
-    let h = rw a at (c .run-differs .ensures (g .size) (λ i h. c .before .before .before .before .before .before .before .before .before .before .before .rows-above .ensures i (omega (arith, c .before .before .end-of .ensures, c .before .before .before .before .before .before .before .before .before .before .before .before .before .before .pre .2)))) in
+    let h = rw a at (c .run-differs .ensures (g .size) (λ i h. c .before .before .before .before .before .before .before .before .before .before .before .cells-above .ensures i (omega (arith, c .before .before .end-of .ensures, c .before .before .before .before .before .before .before .before .before .before .before .before .before .before .pre .2)))) in
     let q = rules-holds (g .size) (g .m) (g .n) (drop (g .from) (g .cells .now)) (b .scan) (b .prev) r (omega arith) (omega arith) (c .before .before .before .before .may-start .result) (c .run-differs .result) (c .before .before .before .before .may-start .ensures) (c .before .before .before .if2 .taken) h in
     (omega arith, omega (arith, c .before .before .end-of .ensures), rw (c .before .before .end-of .ensures) (replays-on (g .size) (g .n) (g .m) (take (g .n) (drop (g .from) (g .cells .now))) (b .scan) (b .prev) r rs (b .bad) (c .run-differs .result) q ∙ rw e at (b .inv .2)))
 
@@ -111,7 +111,7 @@ replays-to-spec =
     (tie.spec
     Inv-loop
     μ-loop
-    rows-above-requires
+    cells-above-requires
     loop-holds
     mul-run-in
     run-in-requires
