@@ -4,13 +4,11 @@ use mathlib.Core.List.{List, [], _∷_, _++_}
 use Prim.Native.Nat.{ℕ, zero, suc, _+_, _-_, _/_, _%_, _^_, _<_}
 use native.Mathlib.Nat.{zero-add, suc-add, add-comm, add-assoc}
 use native.Mathlib.Omega.{arith}
-use lib.Dec.{ltb}
 use lib.ListN.{set}
 use lib.Pow.{shr-shr}
 use lib.Seq.{sets}
 use Rattle.base.specs.Laid.{Left, sets-append}
-use Rattle.base.specs.Pick.{pick, either}
-use Rattle.h265.specs.Strings.{bits, flog, short, tb}
+use Rattle.h265.specs.Strings.{bits}
 use Rattle.h265.specs.StringLaws.{length-bits}
 
 module _ (l : List ℕ) (at a b : ℕ) where
@@ -42,8 +40,3 @@ left-bits a b v l at {m} d = record {
   next = rw (length-bits (a + b) v, length-bits b v) (add-assoc at a b);
   after = rw (d, bits-append a b v) (rw length-bits at (sets-append (bits a (v / 2 ^ b)) (bits b v) l at));
 }
-
--- truncated binary as the bits of one number
-pub tb-bits : (n v : ℕ) → bits (pick (ltb v (short n)) (flog n) (flog n + 1)) (pick (ltb v (short n)) v (v + short n)) ≡ tb n v
-unfolding tb
-tb-bits n v = either (ltb v (short n)) (λ t. rw t) (λ t. rw t)

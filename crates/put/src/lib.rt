@@ -5,10 +5,7 @@ ghost use Prim.Native.Nat.{_+_, _%_, _^_, _≤_, _<_};
 ghost use lib.ListN.{length};
 ghost use lib.Seq.{sets};
 ghost use Rattle.base.specs.Laid.{Laid, Left};
-ghost use lib.Dec.{ltb};
-ghost use Rattle.base.specs.Pick.{pick};
-ghost use Rattle.h265.specs.Strings.{bits, short, tb};
-ghost use Rattle.h265.specs.Strings as S;
+ghost use Rattle.h265.specs.Strings.{bits, tb};
 use bins::flog;
 use bins::pow2;
 
@@ -115,36 +112,16 @@ pub fn put_bits(list: &mut [u8], at: usize, value: u32, n: u32) -> usize
     put_long(list, at, value, n)
 }
 
-// How many bits truncated binary takes.
-fn tb_length(n: u32, v: u32) -> u32
-    requires { ⌜ (1 ≤ n) × (n ≤ 65536) ⌝ }
-    ensures { λ r. ⌜ (r ≡ pick (ltb v (short n)) (S.flog n) (S.flog n + 1)) × (r ≤ 32) ⌝ }
-{
-    let k = flog(n);
-    if v < pow2(k + 1) - n {
-        return k;
-    }
-    k + 1
-}
-
-// The number that these bits are of.
-fn tb_value(n: u32, v: u32) -> u32
-    requires { ⌜ (1 ≤ n) × (n ≤ 65536) × (v < n) ⌝ }
-    ensures { λ r. ⌜ r ≡ pick (ltb v (short n)) v (v + short n) ⌝ }
-{
-    let few = pow2(flog(n) + 1) - n;
-    if v < few {
-        return v;
-    }
-    v + few
-}
-
 // Truncated binary over n values.
 pub fn put_tb(list: &mut [u8], at: usize, n: u32, v: u32) -> usize
     requires { ⌜ (1 ≤ n) × (n ≤ 65536) × (v < n) × (at + 32 < 2 ^ 63) ⌝ }
     ensures laid { λ r. ⌜ Laid (now (list .entry)) at (tb n v) r (now (list .exit)) ⌝ }
     ensures near { λ r. ⌜ r ≤ at + 32 ⌝ }
 {
-    let x = tb_value(n, v);
-    put_bits(list, at, x, tb_length(n, v))
+    let k = flog(n);
+    let short = pow2(k + 1) - n;
+    if v < short {
+        return put_bits(list, at, v, k);
+    }
+    put_bits(list, at, v + short, k + 1)
 }
