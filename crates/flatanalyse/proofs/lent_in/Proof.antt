@@ -1,12 +1,12 @@
--- `exports_analysis::lent_in`: the two tests joined.
+-- `flatanalyse::lent_in`: the two tests joined.
 use mathlib.Core.List.{[], _∷_}
 use mathlib.Core.Path.{_∙_}
 use Rattle.base.specs.Tests.{ands-every}
 use borrow.Author.Needs.{needs}
-use Rattle.exports_analysis.proofs.lent_in.Statement.{statement}
-use Rattle.exports_analysis.proofs.lent_in.Tie as tie
-use Rattle.exports_analysis.proofs.lent_in.Reads as reads
-use Rattle.exports_analysis.proofs.lent_in.Lts as lts
+use Rattle.flatanalyse.proofs.lent_in.Statement.{statement}
+use Rattle.flatanalyse.proofs.lent_in.Tie as tie
+use Rattle.flatanalyse.proofs.lent_in.Reads as reads
+use Rattle.flatanalyse.proofs.lent_in.Lts as lts
 use Rattle.colors.proofs.none_above.Reads as none-above-reads
 use Rattle.domain.proofs.predictor_in.Reads as predictor-in-reads
 

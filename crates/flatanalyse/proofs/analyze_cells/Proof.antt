@@ -1,16 +1,18 @@
--- `exports_analysis::analyze_cells`: 5, then 7, then the colours.
+-- `flatanalyse::analyze_cells`: 5, then 7, then the colours.
 use mathlib.Core.Path.{_≡_, sym, _∙_, ap}
 use borrow.Author.Tests.{le-leb, lt-leb}
 use Rattle.model.specs.declared.PalettePredictor.{PalettePredictor}
-use Rattle.exports_analysis.specs.Calls.{Lent, cellsOut}
-use Rattle.exports_analysis.specs.CallLaws.{each-wide, lent-is, lent-then, lent-out, tolerance-out, taken-out}
+use Rattle.flatchoose.specs.Choose.{Lent}
+use Rattle.flatanalyse.specs.Cells.{cellsOut}
+use Rattle.flatchoose.specs.ChooseLaws.{each-wide}
+use Rattle.flatanalyse.specs.CellsLaws.{lent-is, lent-then, lent-out, tolerance-out, taken-out}
 use borrow.Author.Needs.{needs}
-use Rattle.exports_analysis.proofs.analyze_cells.Statement.{statement}
-use Rattle.exports_analysis.proofs.analyze_cells.Tie as tie
-use Rattle.exports_analysis.proofs.analyze_cells.Reads as reads
-use Rattle.exports_analysis.proofs.analyze_cells.Lts as lts
-use Rattle.exports_analysis.proofs.choose_block.Reads as choose-block-reads
-use Rattle.exports_analysis.proofs.lent_in.Reads as lent-in-reads
+use Rattle.flatanalyse.proofs.analyze_cells.Statement.{statement}
+use Rattle.flatanalyse.proofs.analyze_cells.Tie as tie
+use Rattle.flatanalyse.proofs.analyze_cells.Reads as reads
+use Rattle.flatanalyse.proofs.analyze_cells.Lts as lts
+use Rattle.flatchoose.proofs.choose_block.Reads as choose-block-reads
+use Rattle.flatanalyse.proofs.lent_in.Reads as lent-in-reads
 use Rattle.flat.proofs.predictor_of.Reads as predictor-of-reads
 use Rattle.flatcounter.proofs.generation_of.Reads as generation-of-reads
 use Rattle.flatcounter.proofs.stamps_of.Reads as stamps-of-reads
