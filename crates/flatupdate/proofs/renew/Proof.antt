@@ -1,15 +1,15 @@
--- `exports_update::renew`: the palette, the old entries with flags, the rest of them, and none after them.
+-- `flatupdate::renew`: the palette, the old entries with flags, the rest of them, and none after them.
 use native.Mathlib.Omega.{arith}
-use Rattle.exports_update.specs.Renewing.{renewed}
+use Rattle.flatupdate.specs.Renewing.{renewed}
 use borrow.Author.Needs.{needs}
-use Rattle.exports_update.proofs.renew.Statement.{statement}
-use Rattle.exports_update.proofs.renew.Tie as tie
-use Rattle.exports_update.proofs.renew.Reads as reads
-use Rattle.exports_update.proofs.renew.Lts as lts
-use Rattle.exports_update.proofs.copy.Reads as copy-reads
-use Rattle.exports_update.proofs.finish.Reads as finish-reads
-use Rattle.exports_update.proofs.keep.Reads as keep-reads
-use Rattle.exports_update.proofs.least.Reads as least-reads
+use Rattle.flatupdate.proofs.renew.Statement.{statement}
+use Rattle.flatupdate.proofs.renew.Tie as tie
+use Rattle.flatupdate.proofs.renew.Reads as reads
+use Rattle.flatupdate.proofs.renew.Lts as lts
+use Rattle.flatupdate.proofs.copy.Reads as copy-reads
+use Rattle.flatupdate.proofs.finish.Reads as finish-reads
+use Rattle.flatupdate.proofs.keep.Reads as keep-reads
+use Rattle.flatupdate.proofs.least.Reads as least-reads
 
 slice-read-size : tie.Need-slice-read-size
 slice-read-size c = search needs

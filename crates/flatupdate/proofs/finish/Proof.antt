@@ -1,15 +1,15 @@
--- `exports_update::finish`. The loop's invariant: what is left makes the whole.
+-- `flatupdate::finish`. The loop's invariant: what is left makes the whole.
 use mathlib.Core.Path.{_≡_, refl, sym, _∙_}
 use Prim.Native.Nat.{_+_, _*_, _-_, _≤_}
 use native.Mathlib.Omega.{arith}
 use lib.ListN.{length, replicate, length-set}
 use lib.Seq.{sets}
-use Rattle.exports_update.specs.Renewing.{clear-next, clear-end}
+use Rattle.flatupdate.specs.Renewing.{clear-next, clear-end}
 use borrow.Author.Needs.{needs}
-use Rattle.exports_update.proofs.finish.Statement.{statement}
-use Rattle.exports_update.proofs.finish.Tie as tie
-use Rattle.exports_update.proofs.finish.Reads as reads
-use Rattle.exports_update.proofs.finish.Lts as lts
+use Rattle.flatupdate.proofs.finish.Statement.{statement}
+use Rattle.flatupdate.proofs.finish.Tie as tie
+use Rattle.flatupdate.proofs.finish.Reads as reads
+use Rattle.flatupdate.proofs.finish.Lts as lts
 
 abbrev Inv-loop : tie.InvT-loop
 Inv-loop list₀ size i₀ list i = (i ≤ 384) × (length list ≡ length list₀) × (sets list (1 + i) (replicate (384 - i) 0) ≡ sets list₀ (1 + i₀) (replicate (384 - i₀) 0))

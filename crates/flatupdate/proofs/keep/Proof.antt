@@ -1,4 +1,4 @@
--- `exports_update::keep`. The loop's invariant: what is laid and what is to follow make the whole.
+-- `flatupdate::keep`. The loop's invariant: what is laid and what is to follow make the whole.
 use mathlib.Core.Path.{_≡_, refl, _∙_}
 use mathlib.Core.List.{List}
 use Prim.Native.Nat.{_+_, _*_, _-_, _≤_}
@@ -6,12 +6,12 @@ use native.Mathlib.Omega.{arith}
 use lib.ListN.{length, length-set}
 use Rattle.model.specs.declared.Color.{Color}
 use Rattle.flat.specs.Flat.{number, colorsOf}
-use Rattle.exports_update.specs.Renewing.{Keeping, keeping-start, keeping-passed, keeping-kept, keeping-full, keeping-end, two-long, three-long}
+use Rattle.flatupdate.specs.Renewing.{Keeping, keeping-start, keeping-passed, keeping-kept, keeping-full, keeping-end, two-long, three-long}
 use borrow.Author.Needs.{needs}
-use Rattle.exports_update.proofs.keep.Statement.{statement}
-use Rattle.exports_update.proofs.keep.Tie as tie
-use Rattle.exports_update.proofs.keep.Reads as reads
-use Rattle.exports_update.proofs.keep.Lts as lts
+use Rattle.flatupdate.proofs.keep.Statement.{statement}
+use Rattle.flatupdate.proofs.keep.Tie as tie
+use Rattle.flatupdate.proofs.keep.Reads as reads
+use Rattle.flatupdate.proofs.keep.Lts as lts
 
 abbrev Inv-loop : tie.InvT-loop
 Inv-loop list₀ old block first flags limit k₀ j₀ list k j = (j ≤ flags) × (k ≤ limit) × (length list ≡ length list₀) × ((cs : List Color) → old ≡ colorsOf cs → Keeping list₀ block first flags limit cs k j list)

@@ -1,15 +1,15 @@
--- `exports_update::copy`. The loop's invariant: what is left makes the whole.
+-- `flatupdate::copy`. The loop's invariant: what is left makes the whole.
 use mathlib.Core.Path.{_≡_, refl, sym, _∙_}
 use Prim.Native.Nat.{_+_, _-_, _≤_}
 use native.Mathlib.Omega.{arith}
 use lib.ListN.{length, take, drop, length-set}
 use lib.Seq.{sets}
-use Rattle.exports_update.specs.Renewing.{copy-start, copy-next, copy-end}
+use Rattle.flatupdate.specs.Renewing.{copy-start, copy-next, copy-end}
 use borrow.Author.Needs.{needs}
-use Rattle.exports_update.proofs.copy.Statement.{statement}
-use Rattle.exports_update.proofs.copy.Tie as tie
-use Rattle.exports_update.proofs.copy.Reads as reads
-use Rattle.exports_update.proofs.copy.Lts as lts
+use Rattle.flatupdate.proofs.copy.Statement.{statement}
+use Rattle.flatupdate.proofs.copy.Tie as tie
+use Rattle.flatupdate.proofs.copy.Reads as reads
+use Rattle.flatupdate.proofs.copy.Lts as lts
 
 abbrev Inv-loop : tie.InvT-loop
 Inv-loop list₀ to source from n i₀ list i = (i ≤ n) × (length list ≡ length list₀) × (sets list (to + i) (drop i (take n (drop from source))) ≡ sets list₀ to (take n (drop from source)))

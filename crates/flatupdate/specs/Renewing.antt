@@ -22,7 +22,6 @@ use Rattle.model.specs.declared.Color.{Color}
 use Rattle.model.specs.declared.PalettePredictor.{PalettePredictor}
 use Rattle.model.specs.Domain.{noColor}
 use Rattle.predictor.specs.Update.{padded, renewedOf, updateOf}
-use Rattle.exports_update.specs.Calls.{updateOut}
 
 -- the predictor after a block, of lists that are whole and refused nothing
 abbrev pub afterOf : List ℕ → List ℕ → ℕ → PalettePredictor
@@ -357,7 +356,3 @@ module _ (p b : List ℕ) (limit : ℕ) (r : Ready p b limit) where
     renewed old l₁ l₂ l₃ l₄ h q₁ q₂ e₄ q₃ q₄ =
         let u : length last ≤ 65535 = omega (arith, few) in
         laid-all old l₁ l₂ l₃ l₄ h q₁ q₂ e₄ q₃ q₄ ∙ ap (λ (x : ℕ). sets p 0 (x ∷ colorsOf (padded 128 last))) (sym (min-eq-left u))
-
-pub update-quick : (p b : List ℕ) (limit : ℕ) → Ready p b limit → (after : List ℕ) → after ≡ sets p 0 (flatPredictor (afterOf p b limit)) → (0, after) ≡ updateOut p b limit
-unfolding updateOut updateOf
-update-quick p b limit r after e = rw (r .none, e)
