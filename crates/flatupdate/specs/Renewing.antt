@@ -10,7 +10,7 @@ use native.Mathlib.Omega.{arith}
 use borrow.Author.Tests.{eq-eqb, ne-eqb}
 use lib.Dec.{eqb}
 use lib.ListN.{length, take, drop, getD, set, replicate, length-append, length-set, length-replicate, length-take, length-drop, drop-of-length-le}
-use lib.Seq.{sets, sets-eq, drop-cons, take-take, take-all, take-at, length-take-le, getD-take, getD-drop, set-comm}
+use lib.Seq.{sets, length-sets, sets-eq, drop-cons, take-take, take-all, take-at, length-take-le, getD-take, getD-drop, set-comm}
 use Rattle.base.specs.Cells.{laid-length}
 use Rattle.base.specs.Laid.{sets-append}
 use Rattle.base.specs.Pick.{pick, lt-or-le}
@@ -356,3 +356,49 @@ module _ (p b : List ℕ) (limit : ℕ) (r : Ready p b limit) where
     renewed old l₁ l₂ l₃ l₄ h q₁ q₂ e₄ q₃ q₄ =
         let u : length last ≤ 65535 = omega (arith, few) in
         laid-all old l₁ l₂ l₃ l₄ h q₁ q₂ e₄ q₃ q₄ ∙ ap (λ (x : ℕ). sets p 0 (x ∷ colorsOf (padded 128 last))) (sym (min-eq-left u))
+
+-- ---- what the parts of a renewal ask
+
+long-as : (l after xs : List ℕ) (i : ℕ) → after ≡ sets l i xs → length after ≡ length l
+long-as l after xs i e = ap length e ∙ length-sets l i xs
+
+module _ (p b : List ℕ) (limit : ℕ) (r : Ready p b limit) (first : ℕ) (e₁ : first ≡ min (number b 5) limit) where
+  pub palette-asked : (1 + 3 * first ≤ length p) × (16 + 3 * first ≤ length b) × (1 ≤ 385) × (16 ≤ 4432) × (3 * first ≤ 384)
+  palette-asked =
+      let n = r .entries in
+      let h = r .predictor in
+      let w = r .block in
+      (omega arith, omega arith, omega arith, omega arith, omega arith)
+
+  module _ (flags : ℕ) (e₂ : flags ≡ min (number b 6) (number p 0)) (old l₁ : List ℕ) (q₀ : old ≡ sets (replicate 384 0) 0 (take 384 (drop 1 p))) (q₁ : l₁ ≡ sets p 1 (take (3 * first) (drop 16 b))) where
+    old-long : length old ≡ 384
+    old-long = long-as (replicate 384 0) old (take 384 (drop 1 p)) 0 q₀ ∙ length-replicate {A = ℕ} 384 0
+
+    pub keep-asked : (385 ≤ length l₁) × (384 ≤ length old) × (4432 ≤ length b) × (first ≤ limit) × (limit ≤ 128) × (flags ≤ 128)
+    keep-asked =
+        let n = r .size in
+        let h = r .predictor in
+        let o = old-long in
+        let u = long-as p l₁ (take (3 * first) (drop 16 b)) 1 q₁ in
+        (omega arith, omega arith, r .block, omega arith, r .most, omega arith)
+
+    module _ (k more : ℕ) (l₂ : List ℕ) (q₂ : Kept l₁ old b first flags limit k l₂) (e₄ : more ≡ min (number p 0 - flags) (limit - k)) where
+      after-long : 385 ≤ length l₂
+      after-long = omega (arith, q₂ .long, long-as p l₁ (take (3 * first) (drop 16 b)) 1 q₁, r .predictor)
+
+      pub rest-asked : (1 + 3 * k + 3 * more ≤ length l₂) × (3 * flags + 3 * more ≤ length old) × (1 + 3 * k ≤ 385) × (3 * flags ≤ 4432) × (3 * more ≤ 384)
+      rest-asked =
+          let n = r .size in
+          let m = r .most in
+          let g = q₂ .most in
+          let o = old-long in
+          let u = after-long in
+          (omega arith, omega arith, omega arith, omega arith, omega arith)
+
+      pub finish-asked : (l₃ : List ℕ) → l₃ ≡ sets l₂ (1 + 3 * k) (take (3 * more) (drop (3 * flags) old)) → (385 ≤ length l₃) × (k + more ≤ 128)
+      finish-asked l₃ q₃ =
+          let m = r .most in
+          let g = q₂ .most in
+          let u = after-long in
+          let v = long-as l₂ l₃ (take (3 * more) (drop (3 * flags) old)) (1 + 3 * k) q₃ in
+          (omega arith, omega arith)

@@ -1,6 +1,6 @@
 -- `flatupdate::renew`: the palette, the old entries with flags, the rest of them, and none after them.
 use native.Mathlib.Omega.{arith}
-use Rattle.flatupdate.specs.Renewing.{renewed}
+use Rattle.flatupdate.specs.Renewing.{palette-asked, keep-asked, rest-asked, finish-asked, renewed}
 use borrow.Author.Needs.{needs}
 use Rattle.flatupdate.proofs.renew.Statement.{statement}
 use Rattle.flatupdate.proofs.renew.Tie as tie
@@ -36,7 +36,7 @@ mul-copy : tie.Need-mul-copy
 mul-copy c = search needs
 
 copy-requires-2 : tie.Need-copy-requires-2
-copy-requires-2 c κs = search needs
+copy-requires-2 c κs = palette-asked _ _ _ (c .before .before .before .before .before .before .before .before .before .before .pre) _ (c .before .least .ensures)
 
 shared-slice-read-least-2 : tie.Need-shared-slice-read-least-2
 shared-slice-read-least-2 c = search needs
@@ -51,7 +51,7 @@ slice-aggregate-keep : tie.Need-slice-aggregate-keep
 slice-aggregate-keep c = search needs
 
 keep-requires : tie.Need-keep-requires
-keep-requires c κs = search needs
+keep-requires c κs = keep-asked _ _ _ (c .before .before .before .before .before .before .before .before .before .before .before .before .before .before .before .before .before .pre) _ (c .before .before .before .before .before .before .before .before .least .ensures) _ (c .before .before .least2 .ensures) _ _ (c .before .before .before .before .before .before .before .before .before .before .before .copy .ensures) (c .before .before .before .before .before .before .copy2 .ensures)
 
 sub-least : tie.Need-sub-least
 sub-least c = search needs
@@ -78,13 +78,13 @@ mul-copy-4 : tie.Need-mul-copy-4
 mul-copy-4 c = search needs
 
 copy-requires-3 : tie.Need-copy-requires-3
-copy-requires-3 c κs = search needs
+copy-requires-3 c κs = rest-asked _ _ _ (c .before .before .before .before .before .before .before .before .before .before .before .before .before .before .before .before .before .before .before .before .before .before .before .pre) _ (c .before .before .before .before .before .before .before .before .before .before .before .before .before .before .least .ensures) _ (c .before .before .before .before .before .before .before .before .least2 .ensures) _ _ (c .before .before .before .before .before .before .before .before .before .before .before .before .before .before .before .before .before .copy .ensures) (c .before .before .before .before .before .before .before .before .before .before .before .before .copy2 .ensures) _ _ _ (c .before .before .before .before .before .keep .ensures) (c .before .before .least3 .ensures)
 
 add-finish : tie.Need-add-finish
 add-finish c = search needs
 
 finish-requires : tie.Need-finish-requires
-finish-requires c κs = search needs
+finish-requires c κs = finish-asked _ _ _ (c .before .before .before .before .before .before .before .before .before .before .before .before .before .before .before .before .before .before .before .before .before .before .before .before .before .before .before .pre) _ (c .before .before .before .before .before .before .before .before .before .before .before .before .before .before .before .before .before .before .least .ensures) _ (c .before .before .before .before .before .before .before .before .before .before .before .before .least2 .ensures) _ _ (c .before .before .before .before .before .before .before .before .before .before .before .before .before .before .before .before .before .before .before .before .before .copy .ensures) (c .before .before .before .before .before .before .before .before .before .before .before .before .before .before .before .before .copy2 .ensures) _ _ _ (c .before .before .before .before .before .before .before .before .before .keep .ensures) (c .before .before .before .before .before .before .least3 .ensures) _ (c .before .before .before .copy3 .ensures)
 
 same-length : tie.Need-same-length
 same-length c = search needs
