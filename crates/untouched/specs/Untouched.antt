@@ -12,7 +12,8 @@ use Rattle.model.specs.declared.PalettePredictor.{PalettePredictor}
 use Rattle.analysis.specs.Analyze.{decided, answerOf, paletteRefusal, withRefusal, analyzeOf, analyzeWithOf}
 use Rattle.flat.specs.Flat.{predictorOf, configOf, sourceOf}
 use Rattle.flatcounter.specs.Back.{counter-back}
-use Rattle.exports_analysis.specs.Calls.{Lent, counterLent, analyzedLaid, analyzeOut, analyzeWithOut}
+use Rattle.flatchoose.specs.Choose.{Lent, counterLent, analyzedLaid}
+use Rattle.exports_analysis.specs.Calls.{analyzeOut, analyzeWithOut}
 
 not-zero : (r : ℕ) → decided r ≡ false → eqb r 0 ≡ false
 unfolding decided

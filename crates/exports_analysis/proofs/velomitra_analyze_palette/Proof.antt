@@ -1,50 +1,25 @@
--- `exports_analysis::velomitra_analyze_palette`: refusals 1 to 4, then the colours fetched, at the luma QP's tolerance.
-use mathlib.Core.Path.{refl, sym, _∙_}
-use Prim.Native.Nat.{ℕ}
-use lib.ListN.{length-replicate}
-use Rattle.model.specs.ConfigLaws.{config-bounds}
-use Rattle.model.specs.DomainLaws.{source-bounds}
-use Rattle.source.specs.Laws.{fetched}
-use Rattle.analysis.specs.Analyze.{toleranceAt}
-use Rattle.exports_analysis.specs.Calls.{Lent}
-use Rattle.exports_analysis.specs.CallLaws.{source-out, cells-out, palette-out}
+-- `exports_analysis::velomitra_analyze_palette`: the luma QP's tolerance, lent.
+use mathlib.Core.Path.{refl, _∙_}
+use Rattle.flat.specs.Flat.{sourceOf}
+use Rattle.flatchoose.specs.Choose.{Lent}
+use Rattle.exports_analysis.specs.CallLaws.{palette-out}
 use borrow.Author.Needs.{needs}
 use Rattle.exports_analysis.proofs.velomitra_analyze_palette.Statement.{statement}
 use Rattle.exports_analysis.proofs.velomitra_analyze_palette.Tie as tie
 use Rattle.exports_analysis.proofs.velomitra_analyze_palette.Reads as reads
 use Rattle.exports_analysis.proofs.velomitra_analyze_palette.Lts as lts
-use Rattle.analysis.proofs.tolerance_at.Reads as tolerance-at-reads
-use Rattle.exports_analysis.proofs.analyze_cells.Reads as analyze-cells-reads
+use Rattle.exports_analysis.proofs.velomitra_analyze_with.Reads as velomitra-analyze-with-reads
 use Rattle.flat.proofs.config_of.Reads as config-of-reads
-use Rattle.flat.proofs.source_of.Reads as source-of-reads
-use Rattle.source.proofs.source_refusal.Reads as source-refusal-reads
+use Rattle.flatanalyse.proofs.tolerance_of.Reads as tolerance-of-reads
 
 config-of-requires : tie.Need-config-of-requires
 config-of-requires c κs = search needs
 
-source-of-requires : tie.Need-source-of-requires
-source-of-requires c κs = search needs
+tolerance-of-requires : tie.Need-tolerance-of-requires
+tolerance-of-requires c κs = search needs
 
-source-refusal-requires : tie.Need-source-refusal-requires
-source-refusal-requires c κs = length-replicate {A = ℕ} 1024 0
-
-returns : tie.Need-returns
-returns c =
-    let s = c .before .before .before .before .before .before .before .before .before .before .before .before .before .before .args in
-    let l : Lent = record { keys = s .keys .now; entry = s .entry .now; stamp = s .stamp .now; block = s .block .now } in
-    source-out (s .luma .now) (s .cb .now) (s .cr .now) (s .config .now) (s .source .now) (s .predictor .now) l (c .before .before .before .before .config-of .result) (c .before .before .before .source-of .result) (c .before .before .before .before .config-of .ensures) (c .before .before .before .source-of .ensures) (toleranceAt (c .before .before .before .before .config-of .result)) (c .before .source-refusal .result) (c .before .source-refusal .ensures .0) (c .if1 .taken)
-    ∙ palette-out (s .luma .now) (s .cb .now) (s .cr .now) (s .config .now) (s .source .now) (s .predictor .now) l (c .before .before .before .before .config-of .result) (c .before .before .before .source-of .result) (c .before .before .before .before .config-of .ensures) (c .before .before .before .source-of .ensures) (toleranceAt (c .before .before .before .before .config-of .result)) refl
-
-tolerance-at-requires : tie.Need-tolerance-at-requires
-tolerance-at-requires c κs =
-    let s = c .before .before .before .before .before .before .before .before .before .before .before .before .before .before .before .args in
-    fetched (s .luma .now) (s .cb .now) (s .cr .now) (c .before .before .before .before .before .config-of .result) (c .before .before .before .before .source-of .result) (sym (c .before .before .source-refusal .ensures .0) ∙ c .before .if1 .left) .readable .config
-
-analyze-cells-requires : tie.Need-analyze-cells-requires
-analyze-cells-requires c κs =
-    let s = c .before .before .before .before .before .before .before .before .before .before .before .before .before .before .before .before .before .before .before .before .args in
-    let f = fetched (s .luma .now) (s .cb .now) (s .cr .now) (c .before .before .before .before .before .before .before .before .before .before .config-of .result) (c .before .before .before .before .before .before .before .before .before .source-of .result) (sym (c .before .before .before .before .before .before .before .source-refusal .ensures .0) ∙ c .before .before .before .before .before .before .if1 .left) in
-    (source-bounds (c .before .before .before .before .before .before .before .before .before .before .config-of .result .«chroma_idc») (c .before .before .before .before .before .before .before .before .before .source-of .result) (f .readable .source) .small, config-bounds (c .before .before .before .before .before .before .before .before .before .before .config-of .result) (f .readable .config) .luma)
+velomitra-analyze-with-requires : tie.Need-velomitra-analyze-with-requires
+velomitra-analyze-with-requires c κs = search needs
 
 same-length : tie.Need-same-length
 same-length c = search needs
@@ -58,25 +33,21 @@ same-length-3 c = search needs
 same-length-4 : tie.Need-same-length-4
 same-length-4 c = search needs
 
-returns-2 : tie.Need-returns-2
-returns-2 c =
-    let s = c .before .before .before .before .before .before .before .before .before .before .before .before .before .before .before .before .before .before .before .before .before .before .before .before .before .before .before .before .before .args in
+returns : tie.Need-returns
+returns c =
+    let s = c .before .before .before .before .before .before .before .before .before .before .before .before .before .before .before .before .before .before .before .before .before .before .before .before .args in
     let l : Lent = record { keys = s .keys .now; entry = s .entry .now; stamp = s .stamp .now; block = s .block .now } in
-    c .before .before .before .before .before .before .before .before .analyze-cells .ensures ∙ cells-out (s .luma .now) (s .cb .now) (s .cr .now) (s .config .now) (s .source .now) (s .predictor .now) l (c .before .before .before .before .before .before .before .before .before .before .before .before .before .before .before .before .before .before .before .config-of .result) (c .before .before .before .before .before .before .before .before .before .before .before .before .before .before .before .before .before .before .source-of .result) (c .before .before .before .before .before .before .before .before .before .before .before .before .before .before .before .before .before .before .before .config-of .ensures) (c .before .before .before .before .before .before .before .before .before .before .before .before .before .before .before .before .before .before .source-of .ensures) _ (sym (c .before .before .before .before .before .before .before .before .before .before .before .before .before .before .before .before .source-refusal .ensures .0) ∙ c .before .before .before .before .before .before .before .before .before .before .before .before .before .before .before .if1 .left) (c .before .before .before .before .before .before .before .before .before .before .before .before .before .before .before .before .source-refusal .ensures .1) (c .before .before .before .before .before .before .before .before .before .before .before .before .before .tolerance-at .result)
-    ∙ palette-out (s .luma .now) (s .cb .now) (s .cr .now) (s .config .now) (s .source .now) (s .predictor .now) l (c .before .before .before .before .before .before .before .before .before .before .before .before .before .before .before .before .before .before .before .config-of .result) (c .before .before .before .before .before .before .before .before .before .before .before .before .before .before .before .before .before .before .source-of .result) (c .before .before .before .before .before .before .before .before .before .before .before .before .before .before .before .before .before .before .before .config-of .ensures) (c .before .before .before .before .before .before .before .before .before .before .before .before .before .before .before .before .before .before .source-of .ensures) (c .before .before .before .before .before .before .before .before .before .before .before .before .before .tolerance-at .result) (c .before .before .before .before .before .before .before .before .before .before .before .before .before .tolerance-at .ensures)
+    c .before .before .before .before .before .before .before .before .velomitra-analyze-with .ensures ∙ palette-out (s .luma .now) (s .cb .now) (s .cr .now) (s .config .now) (s .source .now) (s .predictor .now) l (c .before .before .before .before .before .before .before .before .before .before .before .before .before .before .config-of .result) (sourceOf (s .source .now)) (c .before .before .before .before .before .before .before .before .before .before .before .before .before .before .config-of .ensures) refl (c .before .before .before .before .before .before .before .before .before .before .before .before .before .tolerance-of .result) (c .before .before .before .before .before .before .before .before .before .before .before .before .before .tolerance-of .ensures)
 
 pub velomitra-analyze-palette-spec : {M : Type 1} → statement M
 velomitra-analyze-palette-spec =
     tie.close
     (tie.spec
     config-of-requires
-    source-of-requires
-    source-refusal-requires
-    returns
-    tolerance-at-requires
-    analyze-cells-requires
+    tolerance-of-requires
+    velomitra-analyze-with-requires
     same-length
     same-length-2
     same-length-3
     same-length-4
-    returns-2)
+    returns)

@@ -5,14 +5,14 @@ use lib.ListN.{length-replicate}
 use Rattle.model.specs.ConfigLaws.{config-bounds}
 use Rattle.model.specs.DomainLaws.{source-bounds}
 use Rattle.source.specs.Laws.{fetched}
-use Rattle.exports_analysis.specs.Calls.{Lent}
+use Rattle.flatchoose.specs.Choose.{Lent}
 use Rattle.exports_analysis.specs.CallLaws.{source-out, cells-out}
 use borrow.Author.Needs.{needs}
 use Rattle.exports_analysis.proofs.velomitra_analyze_with.Statement.{statement}
 use Rattle.exports_analysis.proofs.velomitra_analyze_with.Tie as tie
 use Rattle.exports_analysis.proofs.velomitra_analyze_with.Reads as reads
 use Rattle.exports_analysis.proofs.velomitra_analyze_with.Lts as lts
-use Rattle.exports_analysis.proofs.analyze_cells.Reads as analyze-cells-reads
+use Rattle.flatanalyse.proofs.analyze_cells.Reads as analyze-cells-reads
 use Rattle.flat.proofs.config_of.Reads as config-of-reads
 use Rattle.flat.proofs.source_of.Reads as source-of-reads
 use Rattle.source.proofs.source_refusal.Reads as source-refusal-reads

@@ -5,13 +5,13 @@ use Rattle.predictor.specs.Update.{updateOf}
 use Rattle.flat.specs.Flat.{blockOf, predictorOf}
 use Rattle.calls.specs.CallLaws.{answered-refused, answered-done}
 use Rattle.exports_update.specs.Calls.{updateOut}
-use Rattle.exports_update.specs.Renewing.{update-quick}
+use Rattle.exports_update.specs.CallLaws.{update-quick}
 use borrow.Author.Needs.{needs}
 use Rattle.exports_update.proofs.velomitra_update.Statement.{statement}
 use Rattle.exports_update.proofs.velomitra_update.Tie as tie
 use Rattle.exports_update.proofs.velomitra_update.Reads as reads
 use Rattle.exports_update.proofs.velomitra_update.Lts as lts
-use Rattle.exports_update.proofs.renew.Reads as renew-reads
+use Rattle.flatupdate.proofs.renew.Reads as renew-reads
 use Rattle.flat.proofs.block_of.Reads as block-of-reads
 use Rattle.flat.proofs.predictor_of.Reads as predictor-of-reads
 use Rattle.flatready.proofs.ready.Reads as ready-reads
