@@ -193,6 +193,9 @@ pub fn run_list(random: &mut Random, lent: &Lent) -> Vec<Run> {
     }
 }
 
+/// Room in which the port writes a block without escapes straight onto the list: so much, and so much for each run.
+const STRAIGHT: [usize; 2] = [16_451, 97];
+
 /// The runs lent with their count, and room for as many bins as source 000 sends and so many more.
 pub fn lend(input: &mut Input, runs: &[Run], more: usize) {
     let length = source_bins(&input.lent, runs).len();
@@ -212,6 +215,7 @@ fn writable(random: &mut Random) -> Input {
         3 => case.lent.used.clear(),
         4 => case.lent.runs.extend([3; 5]),
         5 if runs.is_empty() => (case.lent.runs, case.lent.count) = (vec![1; 9], vec![random.wide() as usize]),
+        6 => case.lent.bins.resize(STRAIGHT[0] + STRAIGHT[1] * runs.len() - random.below(2) as usize, 99),
         _ => (),
     }
     case
