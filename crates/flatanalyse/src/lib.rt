@@ -4,6 +4,7 @@ ghost use mathlib.Core.Bool.{true};
 ghost use mathlib.Core.List.{[], _∷_};
 ghost use Prim.Native.Nat.{_≤_};
 ghost use lib.ListN.{length};
+ghost use Rattle.base.specs.Pick.{pick};
 ghost use Rattle.base.specs.Tests.{every};
 ghost use Rattle.model.specs.Domain.{configIn, depthIn, predictorIn};
 ghost use Rattle.colors.specs.Table.{noneAbove};
@@ -68,9 +69,9 @@ pub fn analyze_cells(
     5
 }
 
-// The luma QP's tolerance, of a configuration in the domain.
+// The luma QP's tolerance of a configuration in the domain, 0 of any other.
 pub fn tolerance_of(c: PaletteConfig) -> u64
-    ensures { λ r. ⌜ (configIn c ≡ true → r ≡ toleranceAt c) ⌝ }
+    ensures { λ r. ⌜ r ≡ pick (configIn c) (toleranceAt c) 0 ⌝ }
 {
     if domain::config_in(c) {
         return analysis::tolerance_at(c);

@@ -37,7 +37,7 @@ returns : tie.Need-returns
 returns c =
     let s = c .before .before .before .before .before .before .before .before .before .before .before .before .before .before .before .before .before .before .before .before .before .before .before .before .args in
     let l : Lent = record { keys = s .keys .now; entry = s .entry .now; stamp = s .stamp .now; block = s .block .now } in
-    c .before .before .before .before .before .before .before .before .velomitra-analyze-with .ensures ∙ palette-out (s .luma .now) (s .cb .now) (s .cr .now) (s .config .now) (s .source .now) (s .predictor .now) l (c .before .before .before .before .before .before .before .before .before .before .before .before .before .before .config-of .result) (sourceOf (s .source .now)) (c .before .before .before .before .before .before .before .before .before .before .before .before .before .before .config-of .ensures) refl (c .before .before .before .before .before .before .before .before .before .before .before .before .before .tolerance-of .result) (c .before .before .before .before .before .before .before .before .before .before .before .before .before .tolerance-of .ensures)
+    c .before .before .before .before .before .before .before .before .velomitra-analyze-with .ensures ∙ palette-out (s .luma .now) (s .cb .now) (s .cr .now) (s .config .now) (s .source .now) (s .predictor .now) l (c .before .before .before .before .before .before .before .before .before .before .before .before .before .before .config-of .result) (sourceOf (s .source .now)) (c .before .before .before .before .before .before .before .before .before .before .before .before .before .before .config-of .ensures) refl (c .before .before .before .before .before .before .before .before .before .before .before .before .before .tolerance-of .result) (λ t. c .before .before .before .before .before .before .before .before .before .before .before .before .before .tolerance-of .ensures ∙ rw t)
 
 pub velomitra-analyze-palette-spec : {M : Type 1} → statement M
 velomitra-analyze-palette-spec =

@@ -1,6 +1,5 @@
 -- `flatanalyse::tolerance_of`: asked of a configuration in the domain alone.
 use mathlib.Core.Path.{sym, _∙_}
-use Rattle.base.specs.Pick.{true-false}
 use borrow.Author.Needs.{needs}
 use Rattle.flatanalyse.proofs.tolerance_of.Statement.{statement}
 use Rattle.flatanalyse.proofs.tolerance_of.Tie as tie
@@ -16,10 +15,10 @@ tolerance-at-requires : tie.Need-tolerance-at-requires
 tolerance-at-requires c κs = sym (c .before .config-in .ensures) ∙ c .if1 .taken
 
 returns : tie.Need-returns
-returns c = search needs
+returns c = rw (sym (c .before .before .config-in .ensures) ∙ c .before .if1 .taken) (c .tolerance-at .ensures)
 
 returns-2 : tie.Need-returns-2
-returns-2 c = λ t. absurd (true-false (sym t ∙ sym (c .before .config-in .ensures) ∙ c .if1 .left))
+returns-2 c = rw (sym (c .before .config-in .ensures) ∙ c .if1 .left)
 
 pub tolerance-of-spec : {M : Type 1} → statement M
 tolerance-of-spec = tie.close (tie.spec config-in-requires tolerance-at-requires returns returns-2)
