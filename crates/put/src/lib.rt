@@ -1,11 +1,14 @@
 // Bins onto a lent list. A bin past the list's end is not stored, and counted all the same: a writer asks no room and answers the place after its last bin.
 ghost use mathlib.Core.List.{[], _∷_};
 ghost use mathlib.Core.Path.{_≡_};
-ghost use Prim.Native.Nat.{_+_, _%_, _^_, _≤_, _<_};
+ghost use Prim.Native.Nat.{_+_, _^_, _≤_, _<_};
 ghost use lib.ListN.{length};
 ghost use lib.Seq.{sets};
-ghost use Rattle.base.specs.Laid.{Laid, Left};
+ghost use lib.Dec.{ltb};
+ghost use Rattle.base.specs.Laid.{Laid};
+ghost use Rattle.base.specs.Pick.{pick};
 ghost use Rattle.h265.specs.Strings.{bits, tb};
+ghost use Rattle.put.specs.Words.{bytes};
 use bins::flog;
 use bins::pow2;
 
@@ -32,49 +35,57 @@ fn lay_four(list: &mut [u8], at: usize, value: u32)
     list[at + 3] = (value % 2) as u8;
 }
 
-// Two bits where the list has room for them.
-fn lay_two(list: &mut [u8], at: usize, value: u32)
-    requires { ⌜ at + 2 ≤ length (now list) ⌝ }
-    ensures { λ _. ⌜ now (list .exit) ≡ sets (now (list .entry)) at (bits 2 value) ⌝ }
+// The four low bytes of a word, the lowest first, where the list has room for them.
+fn store_four(list: &mut [u8], at: usize, w: u64)
+    requires { ⌜ at + 4 ≤ length (now list) ⌝ }
+    ensures { λ _. ⌜ now (list .exit) ≡ sets (now (list .entry)) at (bytes 4 w) ⌝ }
 {
-    list[at] = ((value >> 1) % 2) as u8;
-    list[at + 1] = (value % 2) as u8;
+    list[at] = (w % 256) as u8;
+    list[at + 1] = ((w >> 8) % 256) as u8;
+    list[at + 2] = ((w >> 16) % 256) as u8;
+    list[at + 3] = ((w >> 24) % 256) as u8;
 }
 
-// The four high ones of 4 to 7 bits where the list has room for all; answers the place of the others.
-fn lay_quad(list: &mut [u8], at: usize, value: u32, n: u32) -> usize
-    requires { ⌜ (n ≤ 7) × (at + n ≤ length (now list)) ⌝ }
-    ensures { λ r. ⌜ Left (now (list .entry)) at (bits n value) (now (list .exit)) r (bits (n % 4) value) ⌝ }
+// The two low bytes of a word, the lowest first, where the list has room for them.
+fn store_two(list: &mut [u8], at: usize, w: u64)
+    requires { ⌜ at + 2 ≤ length (now list) ⌝ }
+    ensures { λ _. ⌜ now (list .exit) ≡ sets (now (list .entry)) at (bytes 2 w) ⌝ }
+{
+    list[at] = (w % 256) as u8;
+    list[at + 1] = ((w >> 8) % 256) as u8;
+}
+
+// The n low bytes of a word, the lowest first, where the list has room for them: the first ones and the last ones, which may be some of the same.
+pub fn lay_word(list: &mut [u8], at: usize, w: u64, n: usize) -> usize
+    requires { ⌜ (n ≤ 8) × (at + n ≤ length (now list)) ⌝ }
+    ensures { λ r. ⌜ Laid (now (list .entry)) at (bytes n w) r (now (list .exit)) ⌝ }
 {
     if 4 <= n {
-        lay_four(list, at, value >> (n - 4));
-        return at + 4;
+        let past = n - 4;
+        store_four(list, at, w);
+        store_four(list, at + past, w >> (8 * past) as u64);
+        return at + n;
     }
-    at
-}
-
-// The two high ones of 2 or 3 bits where the list has room for all; answers the place of the other.
-fn lay_pair(list: &mut [u8], at: usize, value: u32, n: u32) -> usize
-    requires { ⌜ (n ≤ 3) × (at + n ≤ length (now list)) ⌝ }
-    ensures { λ r. ⌜ Left (now (list .entry)) at (bits n value) (now (list .exit)) r (bits (n % 2) value) ⌝ }
-{
     if 2 <= n {
-        lay_two(list, at, value >> (n - 2));
-        return at + 2;
+        let past = n - 2;
+        store_two(list, at, w);
+        store_two(list, at + past, w >> (8 * past) as u64);
+        return at + n;
     }
-    at
-}
-
-// At most one bit where the list has room for it; answers the place after it.
-fn lay_odd(list: &mut [u8], at: usize, value: u32, n: u32) -> usize
-    requires { ⌜ (n ≤ 1) × (at + n ≤ length (now list)) ⌝ }
-    ensures { λ r. ⌜ Laid (now (list .entry)) at (bits n value) r (now (list .exit)) ⌝ }
-{
-    if 1 <= n {
-        list[at] = (value % 2) as u8;
+    if n == 1 {
+        list[at] = (w % 256) as u8;
         return at + 1;
     }
     at
+}
+
+// The n low bits as the bytes of a word, the high bit lowest.
+pub fn spread(value: u32, n: u32) -> u64
+    requires { ⌜ n ≤ 7 ⌝ }
+    ensures { λ r. ⌜ bytes n r ≡ bits n value ⌝ }
+{
+    let x = ((value as u64) << (7 - n) as u64) % 128;
+    (x * 18049651735527937 / 64) & 282578800148737
 }
 
 // The n low bits, each stored where the list has room for it: the lowest after the others, eight with room straight.
@@ -103,13 +114,32 @@ pub fn put_bits(list: &mut [u8], at: usize, value: u32, n: u32) -> usize
 {
     if n <= 7 {
         if at + n as usize <= list.len() {
-            let few = n % 4;
-            let two = lay_quad(list, at, value, n);
-            let one = lay_pair(list, two, value, few);
-            return lay_odd(list, one, value, few % 2);
+            return lay_word(list, at, spread(value, n), n as usize);
         }
     }
     put_long(list, at, value, n)
+}
+
+// What is sent for a value: the value, or raised by the number of short strings.
+fn raised(short: u32, v: u32) -> u32
+    requires { ⌜ (v ≤ 65536) × (short ≤ 131072) ⌝ }
+    ensures { λ r. ⌜ r ≡ pick (ltb v short) v (v + short) ⌝ }
+{
+    if v < short {
+        return v;
+    }
+    v + short
+}
+
+// In how many bits: k, or one more.
+fn bits_for(k: u32, short: u32, v: u32) -> u32
+    requires { ⌜ k ≤ 31 ⌝ }
+    ensures { λ r. ⌜ (r ≡ pick (ltb v short) k (k + 1)) × (r ≤ k + 1) ⌝ }
+{
+    if v < short {
+        return k;
+    }
+    k + 1
 }
 
 // Truncated binary over n values.
@@ -120,8 +150,5 @@ pub fn put_tb(list: &mut [u8], at: usize, n: u32, v: u32) -> usize
 {
     let k = flog(n);
     let short = pow2(k + 1) - n;
-    if v < short {
-        return put_bits(list, at, v, k);
-    }
-    put_bits(list, at, v + short, k + 1)
+    put_bits(list, at, raised(short, v), bits_for(k, short, v))
 }

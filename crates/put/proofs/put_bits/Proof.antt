@@ -1,34 +1,27 @@
--- `put::put_bits`: the high four, the next two and the last of at most seven bits where there is room.
-use native.Mathlib.Omega.{arith}
-use Rattle.base.specs.Laid.{left-last}
-use Rattle.h265.specs.StringLaws.{length-bits}
+-- `put::put_bits`: at most seven bits as the bytes of a word where there is room.
 use borrow.Author.Needs.{needs}
 use Rattle.put.proofs.put_bits.Statement.{statement}
 use Rattle.put.proofs.put_bits.Tie as tie
 use Rattle.put.proofs.put_bits.Reads as reads
 use Rattle.put.proofs.put_bits.Lts as lts
-use Rattle.put.proofs.lay_odd.Reads as lay-odd-reads
-use Rattle.put.proofs.lay_pair.Reads as lay-pair-reads
-use Rattle.put.proofs.lay_quad.Reads as lay-quad-reads
+use Rattle.put.proofs.lay_word.Reads as lay-word-reads
 use Rattle.put.proofs.put_long.Reads as put-long-reads
+use Rattle.put.proofs.spread.Reads as spread-reads
 
 add-if2 : tie.Need-add-if2
 add-if2 c = search needs
 
-lay-quad-requires : tie.Need-lay-quad-requires
-lay-quad-requires c κs = search needs
+spread-requires : tie.Need-spread-requires
+spread-requires c κs = search needs
 
-lay-pair-requires : tie.Need-lay-pair-requires
-lay-pair-requires c κs = (omega arith, omega (arith, rw (length-bits, length-bits) at (c .before .before .before .lay-quad .ensures .next), c .before .before .before .lay-quad .kept .0))
-
-lay-odd-requires : tie.Need-lay-odd-requires
-lay-odd-requires c κs = (omega arith, omega (arith, rw (length-bits, length-bits) at (c .before .before .before .before .before .before .before .lay-quad .ensures .next), c .before .before .before .before .before .before .before .lay-quad .kept .0, rw (length-bits, length-bits) at (c .before .before .before .lay-pair .ensures .next), c .before .before .before .lay-pair .kept .0))
+lay-word-requires : tie.Need-lay-word-requires
+lay-word-requires c κs = search needs
 
 same-length : tie.Need-same-length
 same-length c = search needs
 
 returns : tie.Need-returns
-returns c = left-last (left-last (c .before .before .lay-odd .ensures) (c .before .before .before .before .before .before .lay-pair .ensures)) (c .before .before .before .before .before .before .before .before .before .before .lay-quad .ensures)
+returns c = rw (← c .before .before .before .spread .ensures) (c .before .before .lay-word .ensures)
 
 put-long-requires : tie.Need-put-long-requires
 put-long-requires c κs = search needs
@@ -44,9 +37,8 @@ put-bits-spec =
     tie.close
     (tie.spec
     add-if2
-    lay-quad-requires
-    lay-pair-requires
-    lay-odd-requires
+    spread-requires
+    lay-word-requires
     same-length
     returns
     put-long-requires

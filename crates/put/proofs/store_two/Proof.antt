@@ -1,15 +1,14 @@
--- `put::lay_two`: two stores, the high bit first.
-use mathlib.Core.Path.{_≡_}
+-- `put::store_two`: two stores, the lowest byte first.
 use Prim.Native.Nat.{_/_, _%_}
 use native.Mathlib.Omega.{arith}
 use lib.ListN.{length-set}
-use Rattle.h265.specs.Strings.{bits}
 use Rattle.put.specs.Straight.{sets-two}
+use Rattle.put.specs.Words.{bytes}
 use borrow.Author.Needs.{needs}
-use Rattle.put.proofs.lay_two.Statement.{statement}
-use Rattle.put.proofs.lay_two.Tie as tie
-use Rattle.put.proofs.lay_two.Reads as reads
-use Rattle.put.proofs.lay_two.Lts as lts
+use Rattle.put.proofs.store_two.Statement.{statement}
+use Rattle.put.proofs.store_two.Tie as tie
+use Rattle.put.proofs.store_two.Reads as reads
+use Rattle.put.proofs.store_two.Lts as lts
 
 cast-list : tie.Need-cast-list
 cast-list c = search needs
@@ -30,14 +29,11 @@ same-length : tie.Need-same-length
 same-length c = search needs
 
 returns : tie.Need-returns
-unfolding bits
-returns c =
-    let v = c .args .value in
-    let d : v / 1 ≡ v = omega arith in
-    rw d (sets-two (c .args .list .now) (c .args .at) (v / 2 % 2) (v % 2))
+unfolding bytes
+returns c = sets-two (c .args .list .now) (c .args .at) (c .args .w % 256) (c .args .w / 256 % 256)
 
-pub lay-two-spec : {M : Type 1} → statement M
-lay-two-spec =
+pub store-two-spec : {M : Type 1} → statement M
+store-two-spec =
     tie.close
     (tie.spec
     cast-list
