@@ -8,7 +8,7 @@ ghost use lib.Dec.{ltb};
 ghost use Rattle.base.specs.Laid.{Laid};
 ghost use Rattle.base.specs.Pick.{pick};
 ghost use Rattle.h265.specs.Strings.{bits, tb};
-ghost use Rattle.put.specs.Words.{bytes};
+ghost use Rattle.put.specs.Words.{bytes, spread};
 use bins::flog;
 use bins::pow2;
 
@@ -79,13 +79,20 @@ pub fn lay_word(list: &mut [u8], at: usize, w: u64, n: usize) -> usize
     at
 }
 
-// The n low bits as the bytes of a word, the high bit lowest.
-pub fn spread(value: u32, n: u32) -> u64
+// Seven bits as the bytes of a word, the high bit lowest.
+pub fn spread_seven(x: u64) -> u64
+    requires { ⌜ x ≤ 255 ⌝ }
+    ensures { λ r. ⌜ (r ≡ spread x) × (r < 2 ^ 56) ⌝ }
+{
+    (x * 18049651735527937 / 64) & 282578800148737
+}
+
+// The n low bits likewise.
+fn spread_bits(value: u32, n: u32) -> u64
     requires { ⌜ n ≤ 7 ⌝ }
     ensures { λ r. ⌜ bytes n r ≡ bits n value ⌝ }
 {
-    let x = ((value as u64) << (7 - n) as u64) % 128;
-    (x * 18049651735527937 / 64) & 282578800148737
+    spread_seven(((value as u64) << (7 - n) as u64) % 128)
 }
 
 // The n low bits, each stored where the list has room for it: the lowest after the others, eight with room straight.
@@ -114,7 +121,7 @@ pub fn put_bits(list: &mut [u8], at: usize, value: u32, n: u32) -> usize
 {
     if n <= 7 {
         if at + n as usize <= list.len() {
-            return lay_word(list, at, spread(value, n), n as usize);
+            return lay_word(list, at, spread_bits(value, n), n as usize);
         }
     }
     put_long(list, at, value, n)

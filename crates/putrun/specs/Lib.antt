@@ -1,3 +1,4 @@
+pub mod Few
 pub mod Ones
 pub mod Plain
 pub mod Word

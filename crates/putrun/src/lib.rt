@@ -1,18 +1,22 @@
 // The writer of a run's length, palette_run_prefix with palette_run_suffix, onto a lent bin list.
-ghost use mathlib.Core.Bool.{Bool};
 ghost use mathlib.Core.Path.{_≡_};
-ghost use Prim.Native.Nat.{ℕ, _+_, _-_, _*_, _^_, _≤_, _<_};
+ghost use Prim.Native.Nat.{ℕ, _+_, _^_, _≤_, _<_};
+ghost use lib.Dec.{ltb};
 ghost use lib.ListN.{length};
-ghost use lib.Seq.{sets};
 ghost use Rattle.base.specs.Laid.{Laid};
-ghost use Rattle.h265.specs.Strings.{bits, unary, runClass, prefixOf, suffixBins, runBins};
+ghost use Rattle.base.specs.Pick.{pick};
+ghost use Rattle.h265.specs.Strings.{unary, runClass, prefixOf, suffixBins, runBins};
+ghost use Rattle.put.specs.Words.{bytes};
+ghost use Rattle.putrun.specs.Few.{onesOf, fewLongest, fewSize, fewClasses};
 ghost use Rattle.putrun.specs.Word.{wordFrom};
 use bins::flog;
 use bins::pow2;
 use bins::suffixes;
+use put::lay_word;
 use put::put_bin;
 use put::put_bits;
 use put::put_tb;
+use put::spread_seven;
 
 // The bytes of the prefix's zeros in base 256, that of bin 0 lowest.
 fn word_of(above: bool, sent: u32) -> u64
@@ -30,84 +34,32 @@ fn word_of(above: bool, sent: u32) -> u64
     60365212682
 }
 
-// At most four ones, each of its class, where the list has room for them; answers the byte of the zero that may follow.
-fn lay_ones(list: &mut [u8], at: usize, ones: u32, above: bool, sent: u32) -> u8
-    requires { ⌜ (ones ≤ 4) × (at + ones ≤ length (now list)) ⌝ }
-    ensures laid { λ r. ⌜ now (list .exit) ≡ sets (now (list .entry)) at (unary (runClass above sent) 0 ones ones) ⌝ }
-    ensures stop { λ r. ⌜ r ≡ runClass above sent ones * 2 ⌝ }
+// So many ones, a byte each.
+fn ones_of(ones: u32) -> u64
+    requires { ⌜ ones ≤ 7 ⌝ }
+    ensures { λ r. ⌜ r ≡ onesOf ones ⌝ }
 {
-    let w = word_of(above, sent);
-    if ones == 0 {
-        return (w % 256) as u8;
-    }
-    if ones == 1 {
-        list[at] = (w % 256) as u8 + 1;
-        return ((w >> 8) % 256) as u8;
-    }
-    if ones == 2 {
-        list[at] = (w % 256) as u8 + 1;
-        list[at + 1] = ((w >> 8) % 256) as u8 + 1;
-        return ((w >> 16) % 256) as u8;
-    }
-    if ones == 3 {
-        list[at] = (w % 256) as u8 + 1;
-        list[at + 1] = ((w >> 8) % 256) as u8 + 1;
-        list[at + 2] = ((w >> 16) % 256) as u8 + 1;
-        return ((w >> 24) % 256) as u8;
-    }
-    list[at] = (w % 256) as u8 + 1;
-    list[at + 1] = ((w >> 8) % 256) as u8 + 1;
-    list[at + 2] = ((w >> 16) % 256) as u8 + 1;
-    list[at + 3] = ((w >> 24) % 256) as u8 + 1;
-    ((w >> 32) % 256) as u8
+    72340172838076673 % (1 << (8 * ones) as u64)
 }
 
-// The prefix of at most four ones where the list has room for it.
-fn lay_prefix(list: &mut [u8], at: usize, most: u32, ones: u32, above: bool, sent: u32) -> usize
-    requires { ⌜ (ones ≤ 4) × (ones ≤ most) × (at + 8 ≤ length (now list)) × (at + 32 < 2 ^ 63) ⌝ }
-    ensures laid { λ r. ⌜ Laid (now (list .entry)) at (unary (runClass above sent) 0 most ones) r (now (list .exit)) ⌝ }
-    ensures near { λ r. ⌜ r ≤ at + 32 ⌝ }
+// The bins of a prefix: its ones, and a zero unless they are the most.
+fn prefix_size(most: u32, ones: u32) -> usize
+    requires { ⌜ ones ≤ 7 ⌝ }
+    ensures { λ r. ⌜ (r ≡ ones + pick (ltb ones most) 1 0) × (r ≤ 8) ⌝ }
 {
-    let byte = lay_ones(list, at, ones, above, sent);
-    let to = at + ones as usize;
     if ones < most {
-        list[to] = byte;
-        return to + 1;
+        return ones as usize + 1;
     }
-    to
+    ones as usize
 }
 
-// The first five ones, each of its class, where the list has room for them.
-fn lay_five(list: &mut [u8], at: usize, above: bool, sent: u32)
-    requires { ⌜ at + 5 ≤ length (now list) ⌝ }
-    ensures { λ _. ⌜ now (list .exit) ≡ sets (now (list .entry)) at (unary (runClass above sent) 0 5 5) ⌝ }
+// The prefix of at most seven ones where the list has room for it.
+fn lay_prefix(list: &mut [u8], at: usize, most: u32, ones: u32, above: bool, sent: u32) -> usize
+    requires { ⌜ (ones ≤ 7) × (ones ≤ most) × (at + 8 ≤ length (now list)) ⌝ }
+    ensures { λ r. ⌜ Laid (now (list .entry)) at (unary (runClass above sent) 0 most ones) r (now (list .exit)) × (r ≤ at + 8) ⌝ }
 {
-    let byte = lay_ones(list, at, 4, above, sent);
-    list[at + 4] = byte + 1;
-}
-
-// The zeros after the ones, one or none. From bin 5 on the bins are plain bits.
-fn stop_of(most: u32, ones: u32) -> u32
-    requires { ⌜ (ones ≤ 3) × (ones ≤ most) ⌝ }
-    ensures few { λ r. ⌜ r ≤ 1 ⌝ }
-    ensures plain { λ r. ⌜ ((above : Bool) (sent : ℕ) → unary (runClass above sent) 5 most ones ≡ bits (ones + r) (2 ^ (ones + r) - 1 - r)) ⌝ }
-{
-    if ones == most {
-        return 0;
-    }
-    1
-}
-
-// The prefix of five to eight ones where the list has room for five.
-fn lay_long(list: &mut [u8], at: usize, most: u32, ones: u32, above: bool, sent: u32) -> usize
-    requires { ⌜ (5 ≤ ones) × (ones ≤ 8) × (ones ≤ most) × (at + 5 ≤ length (now list)) × (at + 64 < 2 ^ 63) ⌝ }
-    ensures laid { λ r. ⌜ Laid (now (list .entry)) at (unary (runClass above sent) 0 most ones) r (now (list .exit)) ⌝ }
-    ensures near { λ r. ⌜ r ≤ at + 32 ⌝ }
-{
-    lay_five(list, at, above, sent);
-    let stop = stop_of(most - 5, ones - 5);
-    let k = ones - 5 + stop;
-    put_bits(list, at + 5, pow2(k) - 1 - stop, k)
+    let w = word_of(above, sent) + ones_of(ones);
+    lay_word(list, at, w, prefix_size(most, ones))
 }
 
 // The prefix, each bin stored where the list has room for it.
@@ -136,15 +88,9 @@ fn put_prefix(list: &mut [u8], at: usize, most: u32, ones: u32, above: bool, sen
     ensures laid { λ r. ⌜ Laid (now (list .entry)) at (unary (runClass above sent) 0 most ones) r (now (list .exit)) ⌝ }
     ensures near { λ r. ⌜ r ≤ at + 32 ⌝ }
 {
-    if ones <= 4 {
+    if ones <= 7 {
         if at + 8 <= list.len() {
             return lay_prefix(list, at, most, ones, above, sent);
-        }
-    } else {
-        if ones <= 8 {
-            if at + 16 <= list.len() {
-                return lay_long(list, at, most, ones, above, sent);
-            }
         }
     }
     put_bins(list, at, most, ones, above, sent)
@@ -178,8 +124,8 @@ fn prefix_of(more: u32) -> u32
     flog(more) + 1
 }
 
-// A run of `more` further cells of at most `longest`; nothing where there is no choice.
-pub fn put_run(list: &mut [u8], at: usize, longest: u32, above: bool, sent: u32, more: u32) -> usize
+// The same of any run: prefix, then suffix; nothing where there is no choice.
+fn put_any(list: &mut [u8], at: usize, longest: u32, above: bool, sent: u32, more: u32) -> usize
     requires { ⌜ (more ≤ longest) × (longest ≤ 1024) × (at + 64 < 2 ^ 63) ⌝ }
     ensures laid { λ r. ⌜ Laid (now (list .entry)) at (runBins longest above sent more) r (now (list .exit)) ⌝ }
     ensures near { λ r. ⌜ r ≤ at + 64 ⌝ }
@@ -190,4 +136,58 @@ pub fn put_run(list: &mut [u8], at: usize, longest: u32, above: bool, sent: u32,
     let most = flog(longest) + 1;
     let q = put_prefix(list, at, most, prefix_of(more), above, sent);
     put_suffix(list, q, longest, more)
+}
+
+// Of a run of fewer than eight further cells: the shortest longest run that does not cut its bins short.
+fn few_longest(more: u32) -> u32
+    requires { ⌜ more < 8 ⌝ }
+    ensures { λ r. ⌜ r ≡ fewLongest more ⌝ }
+{
+    (2290631713 >> (4 * more)) % 16
+}
+
+// Of such a run: the number of its bins.
+fn few_size(more: u32) -> usize
+    requires { ⌜ more < 8 ⌝ }
+    ensures { λ r. ⌜ (r ≡ fewSize more) × (r ≤ 6) ⌝ }
+{
+    let sizes: u32 = 1717978145;
+    ((sizes >> (4 * more)) % 16) as usize
+}
+
+// Of such a run: the classes of its prefix.
+fn few_classes(above: bool, sent: u32, more: u32) -> u64
+    ensures { λ r. ⌜ (r ≡ fewClasses (wordFrom above sent 0) more) × (r < 2 ^ 32) ⌝ }
+{
+    let w = word_of(above, sent);
+    if more < 4 {
+        return w % 16777216;
+    }
+    w % 4294967296
+}
+
+// Of such a run: its bins as the bytes of a word.
+fn few_word(above: bool, sent: u32, more: u32) -> u64
+    requires { ⌜ more < 8 ⌝ }
+    ensures { λ r. ⌜ ((longest : ℕ) → fewLongest more ≤ longest → bytes (fewSize more) r ≡ runBins longest above sent more) ⌝ }
+{
+    let x = (8535573020886974464 >> (8 * more) as u64) % 256;
+    few_classes(above, sent, more) + spread_seven(x)
+}
+
+// A run of `more` further cells of at most `longest`; nothing where there is no choice.
+pub fn put_run(list: &mut [u8], at: usize, longest: u32, above: bool, sent: u32, more: u32) -> usize
+    requires { ⌜ (more ≤ longest) × (longest ≤ 1024) × (at + 64 < 2 ^ 63) ⌝ }
+    ensures laid { λ r. ⌜ Laid (now (list .entry)) at (runBins longest above sent more) r (now (list .exit)) ⌝ }
+    ensures near { λ r. ⌜ r ≤ at + 64 ⌝ }
+{
+    if more < 8 {
+        if few_longest(more) <= longest {
+            if at + 8 <= list.len() {
+                let w = few_word(above, sent, more);
+                return lay_word(list, at, w, few_size(more));
+            }
+        }
+    }
+    put_any(list, at, longest, above, sent, more)
 }

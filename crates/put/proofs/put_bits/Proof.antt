@@ -6,13 +6,13 @@ use Rattle.put.proofs.put_bits.Reads as reads
 use Rattle.put.proofs.put_bits.Lts as lts
 use Rattle.put.proofs.lay_word.Reads as lay-word-reads
 use Rattle.put.proofs.put_long.Reads as put-long-reads
-use Rattle.put.proofs.spread.Reads as spread-reads
+use Rattle.put.proofs.spread_bits.Reads as spread-bits-reads
 
 add-if2 : tie.Need-add-if2
 add-if2 c = search needs
 
-spread-requires : tie.Need-spread-requires
-spread-requires c κs = search needs
+spread-bits-requires : tie.Need-spread-bits-requires
+spread-bits-requires c κs = search needs
 
 lay-word-requires : tie.Need-lay-word-requires
 lay-word-requires c κs = search needs
@@ -21,7 +21,7 @@ same-length : tie.Need-same-length
 same-length c = search needs
 
 returns : tie.Need-returns
-returns c = rw (← c .before .before .before .spread .ensures) (c .before .before .lay-word .ensures)
+returns c = rw (← c .before .before .before .spread-bits .ensures) (c .before .before .lay-word .ensures)
 
 put-long-requires : tie.Need-put-long-requires
 put-long-requires c κs = search needs
@@ -37,7 +37,7 @@ put-bits-spec =
     tie.close
     (tie.spec
     add-if2
-    spread-requires
+    spread-bits-requires
     lay-word-requires
     same-length
     returns

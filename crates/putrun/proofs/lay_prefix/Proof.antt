@@ -1,50 +1,50 @@
--- `putrun::lay_prefix`: the ones, then the zero.
+-- `putrun::lay_prefix`: the bytes of the word are the prefix.
+use mathlib.Core.Path.{ap₂}
+use Prim.Native.Nat.{_+_}
 use native.Mathlib.Omega.{arith}
-use mathlib.Core.Path.{_≡_}
-use Rattle.h265.specs.Strings.{runClass}
-use Rattle.putrun.specs.Ones.{ones-full, ones-stop}
+use Rattle.put.specs.Words.{length-bytes}
+use Rattle.putrun.specs.Few.{word-most, ones-most, prefix-bytes}
 use borrow.Author.Needs.{needs}
 use Rattle.putrun.proofs.lay_prefix.Statement.{statement}
 use Rattle.putrun.proofs.lay_prefix.Tie as tie
 use Rattle.putrun.proofs.lay_prefix.Reads as reads
 use Rattle.putrun.proofs.lay_prefix.Lts as lts
-use Rattle.putrun.proofs.lay_ones.Reads as lay-ones-reads
+use Rattle.put.proofs.lay_word.Reads as lay-word-reads
+use Rattle.putrun.proofs.ones_of.Reads as ones-of-reads
+use Rattle.putrun.proofs.prefix_size.Reads as prefix-size-reads
+use Rattle.putrun.proofs.word_of.Reads as word-of-reads
 
-lay-ones-requires : tie.Need-lay-ones-requires
-lay-ones-requires c κs = search needs
+word-of-requires : tie.Need-word-of-requires
+word-of-requires c κs = search needs
 
-add-to : tie.Need-add-to
-add-to c = search needs
+ones-of-requires : tie.Need-ones-of-requires
+ones-of-requires c κs = search needs
 
-slice-write-list : tie.Need-slice-write-list
-slice-write-list c = search needs
+add-w : tie.Need-add-w
+add-w c = omega (arith, c .before .word-of .ensures, c .ones-of .ensures, word-most (c .before .before .before .args .above) (c .before .before .before .args .sent), ones-most (c .before .before .before .args .ones))
 
-add-result : tie.Need-add-result
-add-result c = search needs
+prefix-size-requires : tie.Need-prefix-size-requires
+prefix-size-requires c κs = search needs
+
+lay-word-requires : tie.Need-lay-word-requires
+lay-word-requires c κs = (omega (arith, c .prefix-size .ensures .1), omega (arith, c .prefix-size .ensures .1))
 
 same-length : tie.Need-same-length
 same-length c = search needs
 
 returns : tie.Need-returns
-returns c = (rw (c .before .before .before .lay-ones .ensures .1) (ones-stop (runClass (c .before .before .before .before .before .before .args .above) (c .before .before .before .before .before .before .args .sent)) (c .before .before .before .before .before .before .args .list .now) (c .before .before .before .before .before .before .args .at) (c .before .before .before .before .before .before .args .ones) (c .before .before .before .before .before .before .args .most) (c .if1 .taken) (c .before .before .before .lay-ones .ensures .0)), omega arith)
-
-same-length-2 : tie.Need-same-length-2
-same-length-2 c = search needs
-
-returns-2 : tie.Need-returns-2
-returns-2 c =
-    let z : c .before .before .before .before .before .before .args .most ≡ c .before .before .before .before .before .before .args .ones = omega arith in
-    (rw z (ones-full (runClass (c .before .before .before .before .before .before .args .above) (c .before .before .before .before .before .before .args .sent)) (c .before .before .before .before .before .before .args .list .now) (c .before .before .before .before .before .before .args .at) (c .before .before .before .before .before .before .args .ones) (c .before .before .before .lay-ones .ensures .0)), omega arith)
+returns c =
+    let e = prefix-bytes (c .before .before .before .before .before .before .before .before .args .above) (c .before .before .before .before .before .before .before .before .args .sent) (c .before .before .before .before .before .before .before .before .args .ones) (c .before .before .before .before .before .before .before .before .args .most) _ _ (omega arith) (omega arith) (c .before .before .before .prefix-size .ensures .0) (ap₂ _+_ (c .before .before .before .before .before .before .word-of .ensures) (c .before .before .before .before .before .ones-of .ensures)) in
+    (rw (← e) (c .before .before .lay-word .ensures), omega (arith, rw length-bytes at (c .before .before .lay-word .ensures .next), c .before .before .before .prefix-size .ensures .1))
 
 pub lay-prefix-spec : {M : Type 1} → statement M
 lay-prefix-spec =
     tie.close
     (tie.spec
-    lay-ones-requires
-    add-to
-    slice-write-list
-    add-result
+    word-of-requires
+    ones-of-requires
+    add-w
+    prefix-size-requires
+    lay-word-requires
     same-length
-    returns
-    same-length-2
-    returns-2)
+    returns)

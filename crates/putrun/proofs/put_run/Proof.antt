@@ -1,58 +1,64 @@
--- `putrun::put_run`: the prefix, then the suffix.
+-- `putrun::put_run`: a short run as a word where there is room.
 use native.Mathlib.Omega.{arith}
-use Rattle.base.specs.Laid.{laid-none, laid-then}
-use Rattle.h265.specs.RunLaws.{runs-zero, runs-some, prefix-most}
-use Rattle.bins.specs.Logarithm.{flog-most}
+use Prim.Native.Nat.{_≤_}
+use Rattle.h265.specs.Strings.{runBins}
+use Rattle.put.specs.Words.{bytes, length-bytes}
+use Rattle.putrun.specs.Few.{fewLongest, fewSize}
 use borrow.Author.Needs.{needs}
 use Rattle.putrun.proofs.put_run.Statement.{statement}
 use Rattle.putrun.proofs.put_run.Tie as tie
 use Rattle.putrun.proofs.put_run.Reads as reads
 use Rattle.putrun.proofs.put_run.Lts as lts
-use Rattle.bins.proofs.flog.Reads as flog-reads
-use Rattle.putrun.proofs.prefix_of.Reads as prefix-of-reads
-use Rattle.putrun.proofs.put_prefix.Reads as put-prefix-reads
-use Rattle.putrun.proofs.put_suffix.Reads as put-suffix-reads
+use Rattle.put.proofs.lay_word.Reads as lay-word-reads
+use Rattle.putrun.proofs.few_longest.Reads as few-longest-reads
+use Rattle.putrun.proofs.few_size.Reads as few-size-reads
+use Rattle.putrun.proofs.few_word.Reads as few-word-reads
+use Rattle.putrun.proofs.put_any.Reads as put-any-reads
 
-returns : tie.Need-returns
-returns c = (rw (c .if1 .taken, runs-zero (c .before .before .args .above) (c .before .before .args .sent) (c .before .before .args .more)) (laid-none _ _), omega arith)
+few-longest-requires : tie.Need-few-longest-requires
+few-longest-requires c κs = search needs
 
-flog-requires : tie.Need-flog-requires
-flog-requires c κs = search needs
+add-if3 : tie.Need-add-if3
+add-if3 c = search needs
 
-add-most : tie.Need-add-most
-add-most c = omega (arith, c .flog .ensures, flog-most (c .before .before .before .args .longest) 11 (omega arith) (omega arith))
+few-word-requires : tie.Need-few-word-requires
+few-word-requires c κs = search needs
 
-prefix-of-requires : tie.Need-prefix-of-requires
-prefix-of-requires c κs = search needs
+few-size-requires : tie.Need-few-size-requires
+few-size-requires c κs = search needs
 
-put-prefix-requires : tie.Need-put-prefix-requires
-put-prefix-requires c κs = (
-  omega (arith, c .before .before .flog .ensures, c .prefix-of .ensures, prefix-most (c .before .before .before .before .before .args .longest) (c .before .before .before .before .before .args .more) (omega arith) (omega arith)),
-  omega (arith, c .before .before .flog .ensures, flog-most (c .before .before .before .before .before .args .longest) 11 (omega arith) (omega arith)),
-  omega arith,
-)
-
-put-suffix-requires : tie.Need-put-suffix-requires
-put-suffix-requires c κs = (omega arith, omega arith, omega (arith, c .before .before .before .put-prefix .ensures .1))
+lay-word-requires : tie.Need-lay-word-requires
+lay-word-requires c κs = (omega (arith, c .few-size .ensures .1), omega (arith, c .few-size .ensures .1))
 
 same-length : tie.Need-same-length
 same-length c = search needs
 
+returns : tie.Need-returns
+returns c =
+    let h : fewLongest (c .before .before .before .before .before .before .before .before .before .before .before .args .more) ≤ c .before .before .before .before .before .before .before .before .before .before .before .args .longest = omega (arith, c .before .before .before .before .before .before .before .before .few-longest .ensures) in
+    let d = rw (c .before .before .before .few-size .ensures .0, c .before .before .before .before .before .few-word .ensures (c .before .before .before .before .before .before .before .before .before .before .before .args .longest) h) at (c .before .before .lay-word .ensures) in
+    (d, omega (arith, rw length-bytes at (c .before .before .lay-word .ensures .next), c .before .before .before .few-size .ensures .1))
+
+put-any-requires : tie.Need-put-any-requires
+put-any-requires c κs = search needs
+
+same-length-2 : tie.Need-same-length-2
+same-length-2 c = search needs
+
 returns-2 : tie.Need-returns-2
-returns-2 c = (
-  rw (runs-some (c .before .before .before .before .before .before .before .before .before .before .before .before .args .longest) (c .before .before .before .before .before .before .before .before .before .before .before .before .args .above) (c .before .before .before .before .before .before .before .before .before .before .before .before .args .sent) (c .before .before .before .before .before .before .before .before .before .before .before .before .args .more) (omega arith), ← c .before .before .before .before .before .before .before .before .before .flog .ensures, ← c .before .before .before .before .before .before .before .prefix-of .ensures) (laid-then (c .before .before .before .before .before .before .put-prefix .ensures .0) (c .before .before .put-suffix .ensures .0)),
-  omega (arith, c .before .before .put-suffix .ensures .1, c .before .before .before .before .before .before .put-prefix .ensures .1),
-)
+returns-2 c = search needs
 
 pub put-run-spec : {M : Type 1} → statement M
 put-run-spec =
     tie.close
     (tie.spec
-    returns
-    flog-requires
-    add-most
-    prefix-of-requires
-    put-prefix-requires
-    put-suffix-requires
+    few-longest-requires
+    add-if3
+    few-word-requires
+    few-size-requires
+    lay-word-requires
     same-length
+    returns
+    put-any-requires
+    same-length-2
     returns-2)
