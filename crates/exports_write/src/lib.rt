@@ -4,15 +4,15 @@ ghost use mathlib.Core.Bool.{true};
 ghost use lib.ListN.{length};
 ghost use Rattle.flat.specs.Flat.{blockOf};
 ghost use Rattle.flatplan.specs.Flat.{runsOf};
-ghost use Rattle.flatwrite.specs.Lists.{Lists};
+ghost use Rattle.write.specs.Lists.{Lists};
 ghost use Rattle.write.specs.Write.{writeOf, listAfter};
 ghost use Rattle.exports_write.specs.Calls.{Lent, writeOut};
 use flat::block_of;
 use flatplan::put_count;
 use flatplan::runs_of;
 use flatready::block_ready;
-use flatwrite::write_lists;
 use write::Written;
+use write::write_lists;
 use write::write_palette_cu;
 
 // Yes only where the block's list is whole and holds together and the run list has as many runs as are told.

@@ -1,10 +1,9 @@
 -- The escape levels in the code's numbers, and that they are the block's.
-use mathlib.Core.Path.{_≡_, refl, ap, sym, _∙_}
+use mathlib.Core.Path.{_≡_, refl}
 use mathlib.Core.Bool.{Bool, true, false}
 use mathlib.Core.List.{List, [], _∷_, _++_, map}
-use Prim.Native.Nat.{ℕ, zero, suc, _+_, _-_, _≤_, _<_}
+use Prim.Native.Nat.{ℕ, suc, _+_, _-_, _≤_, _<_}
 use native.Mathlib.Numerals.{add-one}
-use native.Mathlib.Omega.{arith}
 use lib.Dec.{eqb}
 use lib.ListN.{length, take, drop, getD}
 use Rattle.base.specs.Codes.{eachBins}
@@ -13,8 +12,9 @@ use Rattle.base.specs.Laid.{Laid, laid-then}
 use Rattle.base.specs.Pick.{pick, either}
 use Rattle.due.specs.Due.{dueAt}
 use Rattle.model.specs.declared.Levels as D
+use Rattle.model.specs.declared.PaletteCu.{PaletteCu}
 use Rattle.model.specs.Whole.{noLevels}
-use Rattle.syntax.specs.Block.{Call, Palette, colours, chromaDue, chromaDepth, dues, levelBins, lumaDues, chromaDues, levelsBins}
+use Rattle.syntax.specs.Block.{Call, Palette, colours, chromaDue, chromaDepth, dues, levelBins, levelsBins}
 
 -- the level of component k
 unfoldable pub levelOf : ℕ → D.Levels → ℕ
@@ -26,6 +26,18 @@ levelsOf format size turned lossless luma chroma e cells vs =
     eachBins (levelBins lossless luma) (dues (dueAt format size turned 0) e 0 cells) (map (levelOf 0) vs)
     ++ (eachBins (levelBins lossless (pick (eqb format 0) 0 chroma)) (dues (dueAt format size turned 1) e 0 cells) (map (levelOf 1) vs)
     ++ eachBins (levelBins lossless (pick (eqb format 0) 0 chroma)) (dues (dueAt format size turned 2) e 0 cells) (map (levelOf 2) vs))
+
+-- a block's, of its first n cells, where it has escapes
+abbrev pub tailOf : PaletteCu → ℕ → List ℕ
+tailOf cu n = pick (cu .«escape_present») (levelsOf (cu .«chroma_idc») (cu .size) (cu .transpose) (cu .lossless) (cu .«bd_luma») (cu .«bd_chroma») (cu .«palette_size») (take n (cu .indices)) (take n (cu .escapes))) []
+
+-- those of component k from cell i on
+abbrev pub levelsFrom : PaletteCu → ℕ → ℕ → ℕ → ℕ → List ℕ
+levelsFrom cu k depth n i = eachBins (levelBins (cu .lossless) depth) (dues (dueAt (cu .«chroma_idc») (cu .size) (cu .transpose) k) (cu .«palette_size») i (drop i (take n (cu .indices)))) (map (levelOf k) (drop i (take n (cu .escapes))))
+
+-- that of component k at cell i, which escapes
+abbrev pub cellBins : PaletteCu → ℕ → ℕ → ℕ → List ℕ
+cellBins cu k depth i = levelBins (cu .lossless) depth (dueAt (cu .«chroma_idc») (cu .size) (cu .transpose) k i) (levelOf k (getD (cu .escapes) i noLevels))
 
 module _ (lossless : Bool) (depth : ℕ) (at : ℕ → Bool) (e : ℕ) (f : D.Levels → ℕ) (xs : List ℕ) (vs : List D.Levels) (n : ℕ) (o : n ≤ length xs) (w : n ≤ length vs) where
   pub levels-turn : (i : ℕ) → i < n →

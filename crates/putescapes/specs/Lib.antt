@@ -1,1 +1,2 @@
 pub mod Escapes
+pub mod Cells

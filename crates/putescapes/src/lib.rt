@@ -1,34 +1,19 @@
-// The writer of the escape levels onto a lent bin list, component by component.
+// The writer of the escape levels onto a lent bin list, component by component, from the block's list of numbers, as crate flat lays it out.
 ghost use mathlib.Core.Path.{_≡_};
-ghost use mathlib.Core.Bool.{Bool, false};
-ghost use mathlib.Core.List.{[], map};
+ghost use mathlib.Core.Bool.{true};
 ghost use Prim.Native.Nat.{_+_, _*_, _^_, _≤_, _<_};
-ghost use lib.ListN.{take};
-ghost use Rattle.base.specs.Codes.{eachBins};
+ghost use lib.ListN.{length};
 ghost use Rattle.base.specs.Laid.{Laid};
 ghost use Rattle.base.specs.Pick.{pick};
 ghost use Rattle.h265.specs.Strings.{bits, egk};
-ghost use Rattle.syntax.specs.Block.{dues, levelBins};
-ghost use Rattle.due.specs.Due.{dueAt};
-ghost use Rattle.putescapes.specs.Escapes.{levelOf, levelsOf};
+ghost use Rattle.flat.specs.Flat.{number, blockOf};
+ghost use Rattle.putescapes.specs.Escapes.{tailOf, cellBins, levelsFrom};
+ghost use Rattle.putescapes.specs.Cells.{Sized, Quiet, Next};
 use due::chroma_depth;
 use due::due_at;
-use model::Levels;
+use flat::byte;
 use put::put_bits;
 use putgolomb::put_egk;
-
-// The level of component k.
-fn level_of(v: Levels, k: u8) -> u32
-    ensures { λ r. ⌜ (r ≡ levelOf k v) × (r ≤ 65535) ⌝ }
-{
-    if k == 0 {
-        return v.y as u32;
-    }
-    if k == 1 {
-        return v.cb as u32;
-    }
-    v.cr as u32
-}
 
 // A level: fixed length where lossless, else Exp-Golomb of order 3.
 fn put_level(list: &mut [u8], at: usize, lossless: bool, depth: u32, v: u32) -> usize
@@ -42,140 +27,97 @@ fn put_level(list: &mut [u8], at: usize, lossless: bool, depth: u32, v: u32) -> 
     put_egk(list, at, 3, v)
 }
 
-// The level of component k at cell i, where the cell escapes and the component has one.
-fn put_cell(
-    list: &mut [u8],
-    at: usize,
-    here: bool,
-    k: u8,
-    format: u8,
-    size: usize,
-    turned: bool,
-    i: usize,
-    lossless: bool,
-    depth: u32,
-    v: u32,
-) -> usize
-    requires { ⌜ (1 ≤ size) × (depth ≤ 32) × (v ≤ 65535) × (at < 2 ^ 62) ⌝ }
-    ensures laid { λ r. ⌜ Laid (now (list .entry)) at (levelBins lossless depth (pick here (dueAt format size turned k i) false) v) r (now (list .exit)) ⌝ }
+// The level of component k at cell i, which escapes, where the component has one there.
+fn put_cell(list: &mut [u8], at: usize, block: &[u16], i: usize, k: u8, depth: u32) -> usize
+    requires { ⌜ Sized (now block) × (i < 1024) × (k ≤ 2) × (depth ≤ 32) × (at < 2 ^ 62) ⌝ }
+    ensures laid { λ r. ⌜ Laid (now (list .entry)) at (cellBins (blockOf (now (block .entry))) k depth i) r (now (list .exit)) ⌝ }
     ensures near { λ r. ⌜ r ≤ at + 33 ⌝ }
 {
-    if here {
-        if due_at(k, format, size, turned, i) {
-            return put_level(list, at, lossless, depth, v);
-        }
-        return at;
+    let size = block[0] as usize;
+    let format = byte(block[1]);
+    if due_at(k, format, size, block[9] == 1, i) {
+        let v = block[1360 + 3 * i + k as usize] as u32;
+        return put_level(list, at, block[4] == 1, depth, v);
     }
     at
 }
 
-// The levels of component k at the first n cells; index e marks an escape.
-fn put_levels(
-    list: &mut [u8],
-    at: usize,
-    indices: [u8; 1024],
-    escapes: [Levels; 1024],
-    n: usize,
-    e: u8,
-    k: u8,
-    format: u8,
-    size: usize,
-    turned: bool,
-    lossless: bool,
-    depth: u32,
-) -> usize
-    requires { ⌜ (1 ≤ size) × (n ≤ 1024) × (depth ≤ 32) × (at < 2 ^ 61) ⌝ }
-    ensures laid { λ r. ⌜ Laid (now (list .entry)) at (eachBins (levelBins lossless depth) (dues (dueAt format size turned k) e 0 (take n indices)) (map (levelOf k) (take n escapes))) r (now (list .exit)) ⌝ }
+// Yes only where none of 16 cells from i on escapes.
+fn quiet(block: &[u16], i: usize) -> bool
+    requires { ⌜ (4432 ≤ length (now block)) × (i + 16 ≤ 1024) ⌝ }
+    ensures { λ r. ⌜ (r ≡ true → Quiet (now (block .entry)) i (i + 16)) ⌝ }
+{
+    let e = block[5];
+    let mut ok = true;
+    let mut j: usize = 0;
+    while j < 16 {
+        let x = block[336 + i + j];
+        ok = ok & (x != e);
+        j += 1;
+    }
+    ok
+}
+
+// Past cells none of which escapes, 16 at a time.
+fn past_quiet(block: &[u16], from: usize, n: usize) -> usize
+    requires { ⌜ (4432 ≤ length (now block)) × (from ≤ n) × (n ≤ 1024) ⌝ }
+    ensures { λ r. ⌜ (from ≤ r) × (r ≤ n) × Quiet (now (block .entry)) from r ⌝ }
+{
+    let mut i = from;
+    while i + 16 <= n {
+        if quiet(block, i) {
+            i += 16;
+        } else {
+            return i;
+        }
+    }
+    i
+}
+
+// The next cell from `from` on that escapes, or n.
+fn next_escape(block: &[u16], from: usize, n: usize) -> usize
+    requires { ⌜ (4432 ≤ length (now block)) × (from ≤ n) × (n ≤ 1024) ⌝ }
+    ensures { λ r. ⌜ Next (now (block .entry)) from n r ⌝ }
+{
+    let e = block[5];
+    let mut i = past_quiet(block, from, n);
+    while i < n {
+        if block[336 + i] == e {
+            return i;
+        }
+        i += 1;
+    }
+    i
+}
+
+// The levels of component k at the first n cells.
+fn put_levels(list: &mut [u8], at: usize, block: &[u16], n: usize, k: u8, depth: u32) -> usize
+    requires { ⌜ Sized (now block) × (n ≤ 1024) × (k ≤ 2) × (depth ≤ 32) × (at < 2 ^ 61) ⌝ }
+    ensures laid { λ r. ⌜ Laid (now (list .entry)) at (levelsFrom (blockOf (now (block .entry))) k depth n 0) r (now (list .exit)) ⌝ }
     ensures near { λ r. ⌜ r ≤ at + 33792 ⌝ }
 {
     let mut p = at;
-    let mut i: usize = 0;
+    let mut i = next_escape(block, 0, n);
     while i < n {
-        let x = indices[i];
-        let v = escapes[i];
-        let l = level_of(v, k);
-        p = put_cell(
-            list,
-            p,
-            x == e,
-            k,
-            format,
-            size,
-            turned,
-            i,
-            lossless,
-            depth,
-            l,
-        );
-        i += 1;
+        p = put_cell(list, p, block, i, k, depth);
+        i = next_escape(block, i + 1, n);
     }
     p
 }
 
-// All levels of a block, where it has escapes.
-pub fn put_escapes(
-    list: &mut [u8],
-    at: usize,
-    indices: [u8; 1024],
-    escapes: [Levels; 1024],
-    n: usize,
-    e: u8,
-    escape: bool,
-    format: u8,
-    size: usize,
-    turned: bool,
-    lossless: bool,
-    luma: u8,
-    chroma: u8,
-) -> usize
-    requires { ⌜ (1 ≤ size) × (n ≤ 1024) × (luma ≤ 12) × (chroma ≤ 12) × (at < 2 ^ 60) ⌝ }
-    ensures { λ r. ⌜ Laid (now (list .entry)) at (pick escape (levelsOf format size turned lossless luma chroma e (take n indices) (take n escapes)) []) r (now (list .exit)) ⌝ }
+// All levels of a block's first n cells, where it has escapes.
+pub fn put_escapes(list: &mut [u8], at: usize, block: &[u16], n: usize) -> usize
+    requires { ⌜ Sized (now block) × (n ≤ 1024) × (at < 2 ^ 60) ⌝ }
+    ensures laid { λ r. ⌜ Laid (now (list .entry)) at (tailOf (blockOf (now (block .entry))) n) r (now (list .exit)) ⌝ }
+    ensures none { λ r. ⌜ ((number (now (block .entry)) 8 ≡ 1 → ⊥) → r ≡ at) ⌝ }
 {
-    if escape {
-        let d = chroma_depth(format, chroma);
-        let l = luma as u32;
-        let p = put_levels(
-            list,
-            at,
-            indices,
-            escapes,
-            n,
-            e,
-            0,
-            format,
-            size,
-            turned,
-            lossless,
-            l,
-        );
-        let q = put_levels(
-            list,
-            p,
-            indices,
-            escapes,
-            n,
-            e,
-            1,
-            format,
-            size,
-            turned,
-            lossless,
-            d,
-        );
-        return put_levels(
-            list,
-            q,
-            indices,
-            escapes,
-            n,
-            e,
-            2,
-            format,
-            size,
-            turned,
-            lossless,
-            d,
-        );
+    if block[8] == 1 {
+        let format = byte(block[1]);
+        let luma = byte(block[2]) as u32;
+        let d = chroma_depth(format, byte(block[3]));
+        let p = put_levels(list, at, block, n, 0, luma);
+        let q = put_levels(list, p, block, n, 1, d);
+        return put_levels(list, q, block, n, 2, d);
     }
     at
 }

@@ -1,79 +1,58 @@
-// The writer of a block's palette onto a lent bin list: reuse runs, signalled entries and the escape flag.
+// The writer of a block's palette onto a lent bin list, from the block's list of numbers, as crate flat lays it out: reuse runs, signalled entries and the escape flag.
 ghost use mathlib.Core.Path.{_≡_};
-ghost use mathlib.Core.Bool.{true};
+ghost use mathlib.Core.List.{[]};
 ghost use Prim.Native.Nat.{_+_, _-_, _*_, _^_, _≤_, _<_};
 ghost use lib.Dec.{ltb};
-ghost use lib.ListN.{take, drop, replicate};
+ghost use lib.ListN.{length, take, drop, replicate};
 ghost use Rattle.base.specs.Codes.{eachBins, whenBins};
 ghost use Rattle.base.specs.Laid.{Laid};
-ghost use Rattle.h265.specs.Reuse.{trues};
+ghost use Rattle.flat.specs.Flat.{blockOf};
 ghost use Rattle.h265.specs.Strings.{bit, binOf, bits};
-ghost use Rattle.syntax.specs.Block.{column, signalledBins, entriesBins, paletteBins};
-ghost use Rattle.putpalette.specs.Palette.{lent, part};
+ghost use Rattle.syntax.specs.Block.{column, signalledBins, entriesBins};
+ghost use Rattle.syntax.specs.Records.{callOf};
+ghost use Rattle.putpalette.specs.Palette.{part, headOf, Headed};
 use due::chroma_depth;
-use model::Color;
+use flat::byte;
+use flat::flags_of;
 use put::put_bin;
 use put::put_bits;
 use putgolomb::put_egk;
 use putreuse::put_reuse;
 
-// Component k of an entry.
-fn part_of(c: Color, k: u8) -> u32
-    ensures { λ r. ⌜ r ≡ part k c ⌝ }
-{
-    if k == 0 {
-        return c.y as u32;
-    }
-    if k == 1 {
-        return c.cb as u32;
-    }
-    c.cr as u32
-}
-
 // Component k of the entries from `from` to `to`.
 fn put_column(
     list: &mut [u8],
     at: usize,
-    palette: [Color; 64],
+    block: &[u16],
     from: usize,
     to: usize,
-    k: u8,
+    k: usize,
     depth: u32,
 ) -> usize
-    requires { ⌜ (from ≤ to) × (to ≤ 64) × (depth ≤ 32) × (at < 2 ^ 62) ⌝ }
-    ensures laid { λ r. ⌜ Laid (now (list .entry)) at (eachBins bits (replicate (to - from) depth) (column (part k) (drop from (take to palette)))) r (now (list .exit)) ⌝ }
+    requires { ⌜ (4432 ≤ length (now block)) × (from ≤ to) × (to ≤ 64) × (k ≤ 2) × (depth ≤ 32) × (at < 2 ^ 62) ⌝ }
+    ensures laid { λ r. ⌜ Laid (now (list .entry)) at (eachBins bits (replicate (to - from) depth) (column (part k) (drop from (take to (blockOf (now (block .entry)) .palette))))) r (now (list .exit)) ⌝ }
     ensures near { λ r. ⌜ r ≤ at + 2048 ⌝ }
 {
     let mut p = at;
     let mut i = from;
     while i < to {
-        let c = palette[i];
-        p = put_bits(list, p, part_of(c, k), depth);
+        p = put_bits(list, p, block[16 + 3 * i + k] as u32, depth);
         i += 1;
     }
     p
 }
 
 // The entries from `from` to `to`, component by component.
-fn put_entries(
-    list: &mut [u8],
-    at: usize,
-    palette: [Color; 64],
-    from: usize,
-    to: usize,
-    limit: u32,
-    format: u8,
-    luma: u8,
-    chroma: u8,
-) -> usize
-    requires { ⌜ (from ≤ to) × (to ≤ 64) × (luma ≤ 12) × (chroma ≤ 12) × (at < 2 ^ 61) ⌝ }
-    ensures laid { λ r. ⌜ Laid (now (list .entry)) at (entriesBins (lent limit format luma chroma) (to - from) (drop from (take to palette))) r (now (list .exit)) ⌝ }
+fn put_entries(list: &mut [u8], at: usize, block: &[u16], from: usize, to: usize) -> usize
+    requires { ⌜ Headed (now block) × (from ≤ to) × (to ≤ 64) × (at < 2 ^ 61) ⌝ }
+    ensures laid { λ r. ⌜ Laid (now (list .entry)) at (entriesBins (callOf 64 [] (blockOf (now (block .entry)))) (to - from) (drop from (take to (blockOf (now (block .entry)) .palette)))) r (now (list .exit)) ⌝ }
     ensures near { λ r. ⌜ r ≤ at + 6144 ⌝ }
 {
-    let d = chroma_depth(format, chroma);
-    let p = put_column(list, at, palette, from, to, 0, luma as u32);
-    let q = put_column(list, p, palette, from, to, 1, d);
-    put_column(list, q, palette, from, to, 2, d)
+    let luma = byte(block[2]) as u32;
+    let d = chroma_depth(byte(block[1]), byte(block[3]));
+    let p = put_column(list, at, block, from, to, 0, luma);
+    let q = put_column(list, p, block, from, to, 1, d);
+    put_column(list, q, block, from, to, 2, d)
 }
 
 // num_signalled_palette_entries, where the limit leaves room.
@@ -107,27 +86,17 @@ fn put_escape(list: &mut [u8], at: usize, size: usize, escape: bool) -> usize
     at
 }
 
-// The palette: its first `reused` entries are those that the first `count` flags mark.
-pub fn put_palette(
-    list: &mut [u8],
-    at: usize,
-    limit: u32,
-    format: u8,
-    luma: u8,
-    chroma: u8,
-    flags: [bool; 128],
-    count: usize,
-    palette: [Color; 64],
-    reused: usize,
-    size: usize,
-    escape: bool,
-) -> usize
-    requires { ⌜ (limit ≤ 64) × (luma ≤ 12) × (chroma ≤ 12) × (count ≤ 128) × (reused ≤ size) × (size ≤ 64) × (reused ≡ trues (take count flags)) × (at < 2 ^ 60) ⌝ }
-    ensures laid { λ r. ⌜ Laid (now (list .entry)) at (paletteBins (lent limit format luma chroma) (record { flags = take count flags; fresh = drop reused (take size palette); escape = escape })) r (now (list .exit)) ⌝ }
+// The palette, under the limit 64: its first entries are those that the flags mark.
+pub fn put_palette(list: &mut [u8], at: usize, block: &[u16]) -> usize
+    requires { ⌜ Headed (now block) × (at < 2 ^ 60) ⌝ }
+    ensures laid { λ r. ⌜ Laid (now (list .entry)) at (headOf (blockOf (now (block .entry)))) r (now (list .exit)) ⌝ }
     ensures near { λ r. ⌜ r ≤ at + 16384 ⌝ }
 {
-    let p = put_reuse(list, at, limit, flags, count);
-    let q = put_signalled(list, p, limit, reused as u32, (size - reused) as u32);
-    let r = put_entries(list, q, palette, reused, size, limit, format, luma, chroma);
-    put_escape(list, r, size, escape)
+    let flags = flags_of(block);
+    let size = block[5] as usize;
+    let reused = size - block[7] as usize;
+    let p = put_reuse(list, at, 64, flags, block[6] as usize);
+    let q = put_signalled(list, p, 64, reused as u32, (size - reused) as u32);
+    let r = put_entries(list, q, block, reused, size);
+    put_escape(list, r, size, block[8] == 1)
 }

@@ -1,33 +1,32 @@
 -- The writer's answers, and the block's bins from its three parts.
-use mathlib.Core.Path.{_≡_, refl, ap, sym, _∙_}
+use mathlib.Core.Path.{_≡_, sym, _∙_}
 use mathlib.Core.Bool.{Bool, true, false}
-use mathlib.Core.List.{List, [], _∷_, _++_}
-use Prim.Native.Nat.{ℕ, zero, suc, _+_, _*_, _-_, _≤_, _<_}
+use mathlib.Core.List.{List, [], _∷_}
+use Prim.Native.Nat.{ℕ, _+_, _*_, _-_, _≤_, _<_}
 use native.Mathlib.Nat.{mul-le-mul}
 use native.Mathlib.Omega.{arith}
-use lib.Dec.{ltb, leb, eqb}
-use lib.ListN.{length, take, drop, length-drop}
-use lib.Seq.{sets, length-take-le}
-use borrow.Author.Tests.{lt-ltb, le-ltb, le-leb, lt-leb, leb-true, ne-eqb}
+use lib.Dec.{leb}
+use lib.ListN.{length, take, length-drop}
+use lib.Seq.{length-take-le}
+use borrow.Author.Tests.{lt-ltb, le-leb, lt-leb, leb-true, ne-eqb}
 use Rattle.base.specs.Laid.{Laid, laid-then}
-use Rattle.base.specs.Pick.{pick}
-use Rattle.base.specs.Refusals.{Numbered, refused-early, refused-late, refused-not}
-use Rattle.base.specs.Tests.{every, refusal, both}
+use Rattle.base.specs.Refusals.{Numbered, refused-early, refused-late}
+use Rattle.base.specs.Tests.{refusal, both}
 use Rattle.model.specs.ConfigLaws.{depth-bounds}
 use Rattle.model.specs.declared.PaletteCu.{PaletteCu}
 use Rattle.model.specs.Whole.{maxIndex, blockSizeIn, holds}
-use Rattle.model.specs.WholeLaws.{Whole, whole}
+use Rattle.model.specs.WholeLaws.{whole}
 use Rattle.h265.specs.Reuse.{trues}
 use Rattle.h265.specs.Strings.{bit}
-use Rattle.syntax.specs.Block.{Palette, colours, paletteOf, paletteBins, entriesBins, mapBins, levelsBins, blockBins}
+use Rattle.syntax.specs.Block.{colours, paletteOf, mapBins, blockBins}
 use Rattle.syntax.specs.Block as B
 use Rattle.syntax.specs.MapLaws.{CodedOk}
 use Rattle.syntax.specs.Ready.{ready}
 use Rattle.syntax.specs.Records.{callOf, blockOf}
 use Rattle.syntax.specs.Runs.{Run}
 use Rattle.syntax.specs.Test.{replays}
-use Rattle.putescapes.specs.Escapes.{levelsOf, levels-are}
-use Rattle.putpalette.specs.Palette as P
+use Rattle.putescapes.specs.Escapes.{tailOf, levels-are}
+use Rattle.putpalette.specs.Palette.{headOf}
 use Rattle.write.specs.declared.Written.{Written}
 use Rattle.write.specs.Write.{binsOf, runsHold, writeRefusal, writeOf, listAfter}
 
@@ -83,14 +82,6 @@ fit cu e =
 
 -- ---- the three parts
 
--- the palette's bins, in the code's numbers
-abbrev pub headOf : PaletteCu → List ℕ
-headOf cu = paletteBins (P.lent 64 (cu .«chroma_idc») (cu .«bd_luma») (cu .«bd_chroma»)) (record { flags = take (cu .«pred_size») (cu .reused); fresh = drop (cu .«palette_size» - cu .«num_signaled») (take (cu .«palette_size») (cu .palette)); escape = cu .«escape_present» })
-
-palette-same : (cu : PaletteCu) (x : Palette) → paletteBins (callOf 64 [] cu) x ≡ paletteBins (P.lent 64 (cu .«chroma_idc») (cu .«bd_luma») (cu .«bd_chroma»)) x
-unfolding paletteBins entriesBins
-palette-same cu x = refl
-
 the-colours : (cu : PaletteCu) → Fit cu → length (cu .palette) ≡ 64 → colours (paletteOf (blockOf cu)) ≡ cu .«palette_size»
 the-colours cu f k =
     omega (arith, f .reused, f .signaled, length-drop (trues (take (cu .«pred_size») (cu .reused))) (take (cu .«palette_size») (cu .palette)), length-take-le (cu .«palette_size») (cu .palette) (omega (arith, f .entries)))
@@ -99,13 +90,13 @@ pub block-laid : {l₀ l₁ l₂ l₃ : List ℕ} {p q r : ℕ} (cu : PaletteCu)
     m ≡ cu .«palette_size» + bit (cu .«escape_present») - 1 →
     Laid l₀ 0 (headOf cu) p l₁ →
     Laid l₁ p (mapBins (cu .size) (cu .size * cu .size) m (cu .«escape_present») (record { turned = cu .transpose; runs = rs })) q l₂ →
-    Laid l₂ q (pick (cu .«escape_present») (levelsOf (cu .«chroma_idc») (cu .size) (cu .transpose) (cu .lossless) (cu .«bd_luma») (cu .«bd_chroma») (cu .«palette_size») (take (cu .size * cu .size) (cu .indices)) (take (cu .size * cu .size) (cu .escapes))) []) r l₃ →
+    Laid l₂ q (tailOf cu (cu .size * cu .size)) r l₃ →
     Laid l₀ 0 (binsOf cu rs) r l₃
 unfolding binsOf blockBins
 block-laid {l₀} {l₁} {l₂} {l₃} {p} {q} {r} cu rs m f k e a b d =
     let n = the-colours cu f k in
     let v = levels-are (callOf 64 [] cu) (paletteOf (blockOf cu)) (cu .transpose) (cu .«palette_size») (take (cu .size * cu .size) (cu .indices)) (take (cu .size * cu .size) (cu .escapes)) n in
-    rw (palette-same cu (paletteOf (blockOf cu)), v, n, ← e, ← f .reused) (laid-then a (laid-then b d))
+    rw (v, n, ← e, ← f .reused) (laid-then a (laid-then b d))
 
 -- ---- the answers
 
@@ -123,12 +114,6 @@ module _ (cu : PaletteCu) (runs : List Run) (count : ℕ) (l : List ℕ) where
   numbered : Numbered early
   numbered = (omega arith, (omega arith, (omega arith, tt)))
 
-  pub early-not : refusal early ≡ 0 → (holds 64 cu ≡ true) × (runsHold cu runs count ≡ true)
-  early-not e =
-      let a = refused-not (blockSizeIn cu) 2 ((holds 64 cu, 7) ∷ (runsHold cu runs count, 8) ∷ []) (omega arith) e in
-      let b = refused-not (holds 64 cu) 7 ((runsHold cu runs count, 8) ∷ []) (omega arith) (a .1) in
-      (b .0, refused-not (runsHold cu runs count) 8 [] (omega arith) (b .1) .0)
-
   write-refused : (k : ℕ) (r : Written) → r ≡ record { refusal = k; bins = 0 } → writeRefusal cu runs count (length l) ≡ k → 1 ≤ k → Wrote r l
   unfolding writeOf listAfter
   write-refused k r z e o = (z ∙ rw (e, ne-eqb k 0 (λ y. omega arith)), rw (e, ne-eqb k 0 (λ y. omega arith)))
@@ -136,6 +121,12 @@ module _ (cu : PaletteCu) (runs : List Run) (count : ℕ) (l : List ℕ) where
   pub write-early : (k : ℕ) (r : Written) → r ≡ record { refusal = k; bins = 0 } → k ≡ refusal early → (k ≡ 0 → ⊥) → Wrote r l
   unfolding writeRefusal
   write-early k r z e o = let p : 1 ≤ k = omega arith in write-refused k r z (refused-early early late k numbered (sym e) p) p
+
+  pub write-two : (r : Written) → r ≡ record { refusal = 2; bins = 0 } → blockSizeIn cu ≡ false → Wrote r l
+  write-two r z e = write-early 2 r z (rw e) (λ w. omega arith)
+
+  pub write-seven : (r : Written) → r ≡ record { refusal = 7; bins = 0 } → blockSizeIn cu ≡ true → holds 64 cu ≡ false → Wrote r l
+  write-seven r z s e = write-early 7 r z (rw (s, e)) (λ w. omega arith)
 
   pub write-nine : (r : Written) → r ≡ record { refusal = 9; bins = 0 } → refusal early ≡ 0 → length l < length (binsOf cu (take count runs)) → Wrote r l
   unfolding writeRefusal

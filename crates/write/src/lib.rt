@@ -1,17 +1,18 @@
-// A palette block with its runs, written onto a lent bin list.
+// A palette block with its runs, written onto a lent bin list from the lists of numbers that crates flat and flatplan lay them in. Bins are laid on a list of their own first, so that their number is known before the caller's list is touched; onto the caller's straight where it has room for any such block.
 ghost use mathlib.Core.Path.{_≡_};
 ghost use mathlib.Core.Bool.{true};
-ghost use mathlib.Core.List.{[], _∷_};
 ghost use Prim.Native.Nat.{_+_, _-_, _*_, _≤_};
 ghost use lib.ListN.{length, take};
+ghost use lib.Seq.{sets};
 ghost use Rattle.base.specs.Laid.{Laid};
-ghost use Rattle.base.specs.Tests.{refusal};
+ghost use Rattle.flat.specs.Flat.{number, blockOf};
 ghost use Rattle.flatplan.specs.Flat.{runsOf, firstOf};
 ghost use Rattle.h265.specs.Strings.{bit};
-ghost use Rattle.model.specs.Whole.{blockSizeIn, holds};
+ghost use Rattle.model.specs.Whole.{holds};
 ghost use Rattle.write.specs.Write.{binsOf, runsHold, writeOf, listAfter};
-ghost use Rattle.write.specs.Laws.{headOf};
+ghost use Rattle.write.specs.Lists.{Lists};
 use flatplan::lay_runs;
+use layflat::lay_block;
 use model::PaletteCu;
 use model::PaletteRun;
 use putescapes::put_escapes;
@@ -28,7 +29,7 @@ pub struct Written {
 }
 
 // The cells of a block.
-pub fn area(size: usize) -> usize
+fn area(size: usize) -> usize
     requires { ⌜ size ≤ 32 ⌝ }
     ensures { λ r. ⌜ (r ≡ size * size) × (r ≤ 1024) ⌝ }
 {
@@ -36,7 +37,7 @@ pub fn area(size: usize) -> usize
 }
 
 // The greatest index; 0 also for an empty palette.
-pub fn greatest(size: usize, escape: bool) -> u32
+fn greatest(size: usize, escape: bool) -> u32
     requires { ⌜ size ≤ 64 ⌝ }
     ensures { λ r. ⌜ (r ≡ size + bit escape - 1) × (r ≤ 64) ⌝ }
 {
@@ -49,113 +50,77 @@ pub fn greatest(size: usize, escape: bool) -> u32
     (size - 1) as u32
 }
 
-// The first n indices in a list of wider numbers.
-fn widened(indices: [u8; 1024], n: usize) -> [u16; 1028]
-    requires { ⌜ n ≤ 1024 ⌝ }
-    ensures { λ r. ⌜ take n r ≡ take n indices ⌝ }
-{
-    let mut cells: [u16; 1028] = [0; 1028];
-    let mut i: usize = 0;
-    while i < n {
-        cells[i] = indices[i] as u16;
-        i += 1;
-    }
-    cells
-}
-
 // The test for refusal 8: with M = 0 the list is ignored.
-fn runs_hold(cu: PaletteCu, runs: &[u32], count: usize) -> bool
-    requires { ⌜ (holds 64 cu ≡ true) × (4096 ≤ length (now runs)) ⌝ }
-    ensures { λ r. ⌜ r ≡ runsHold cu (runsOf (now (runs .entry)) count) count ⌝ }
+fn runs_hold(block: &[u16], runs: &[u32], count: usize) -> bool
+    requires { ⌜ Lists (now block) (now runs) count ⌝ }
+    ensures { λ r. ⌜ r ≡ runsHold (blockOf (now (block .entry))) (runsOf (now (runs .entry)) count) count ⌝ }
 {
-    let m = greatest(cu.palette_size, cu.escape_present);
+    let m = greatest(block[5] as usize, block[8] == 1);
     if m == 0 {
         return true;
     }
     if 1024 < count {
         return false;
     }
-    let n = area(cu.size);
-    let indices = cu.indices;
-    let cells = widened(indices, n);
-    replays_to(&cells, 0, cu.size, n, m, runs, count)
-}
-
-// The palette's bins.
-fn put_head(list: &mut [u8], cu: PaletteCu) -> usize
-    requires { ⌜ holds 64 cu ≡ true ⌝ }
-    ensures laid { λ r. ⌜ Laid (now (list .entry)) 0 (headOf cu) r (now (list .exit)) ⌝ }
-    ensures near { λ r. ⌜ r ≤ 16384 ⌝ }
-{
-    let flags = cu.reused;
-    let palette = cu.palette;
-    put_palette(
-        list,
-        0,
-        64,
-        cu.chroma_idc,
-        cu.bd_luma,
-        cu.bd_chroma,
-        flags,
-        cu.pred_size,
-        palette,
-        cu.palette_size - cu.num_signaled,
-        cu.palette_size,
-        cu.escape_present,
-    )
+    let size = block[0] as usize;
+    let n = area(size);
+    replays_to(block, 336, size, n, m, runs, count)
 }
 
 // The block's bins: palette, index map, escape levels.
-fn put_block(list: &mut [u8], cu: PaletteCu, runs: &[u32], count: usize) -> usize
-    requires { ⌜ (holds 64 cu ≡ true) × (runsHold cu (runsOf (now runs) count) count ≡ true) × (4096 ≤ length (now runs)) ⌝ }
-    ensures { λ r. ⌜ Laid (now (list .entry)) 0 (binsOf cu (firstOf (now (runs .entry)) count)) r (now (list .exit)) ⌝ }
+fn put_block(list: &mut [u8], block: &[u16], runs: &[u32], count: usize) -> usize
+    requires { ⌜ Lists (now block) (now runs) count × (runsHold (blockOf (now block)) (runsOf (now runs) count) count ≡ true) ⌝ }
+    ensures laid { λ r. ⌜ Laid (now (list .entry)) 0 (binsOf (blockOf (now (block .entry))) (firstOf (now (runs .entry)) count)) r (now (list .exit)) ⌝ }
+    ensures short { λ r. ⌜ ((number (now (block .entry)) 8 ≡ 1 → ⊥) → r ≤ 16451 + 97 * count) ⌝ }
 {
-    let n = area(cu.size);
-    let m = greatest(cu.palette_size, cu.escape_present);
-    let size = cu.size as u32;
-    let cells = n as u32;
-    let escape = cu.escape_present;
-    let turned = cu.transpose;
-    let indices = cu.indices;
-    let escapes = cu.escapes;
-    let p = put_head(list, cu);
-    let q = put_map(list, p, size, cells, m, escape, turned, runs, count);
-    put_escapes(
+    let size = block[0] as usize;
+    let escape = block[8] == 1;
+    let turned = block[9] == 1;
+    let n = area(size);
+    let m = greatest(block[5] as usize, escape);
+    let p = put_palette(list, 0, block);
+    let q = put_map(
         list,
-        q,
-        indices,
-        escapes,
-        n,
-        cu.palette_size as u8,
+        p,
+        size as u32,
+        n as u32,
+        m,
         escape,
-        cu.chroma_idc,
-        cu.size,
         turned,
-        cu.lossless,
-        cu.bd_luma,
-        cu.bd_chroma,
-    )
+        runs,
+        count,
+    );
+    put_escapes(list, q, block, n)
 }
 
-// The number of the first refusal that needs no bins; 0 where there is none.
-fn refusal_of(cu: PaletteCu, runs: &[u32], count: usize) -> u8
-    requires { ⌜ 4096 ≤ length (now runs) ⌝ }
-    ensures { λ r. ⌜ r ≡ refusal ((blockSizeIn cu, 2) ∷ (holds 64 cu, 7) ∷ (runsHold cu (runsOf (now (runs .entry)) count) count, 8) ∷ []) ⌝ }
+// The first n bytes of one list on the front of another.
+fn lay(list: &mut [u8], bytes: &[u8], n: usize)
+    requires { ⌜ (n ≤ length (now list)) × (n ≤ length (now bytes)) ⌝ }
+    ensures { λ _. ⌜ now (list .exit) ≡ sets (now (list .entry)) 0 (take n (now (bytes .entry))) ⌝ }
 {
-    if block_size_in(cu) {
-        if holds_together(64, cu) {
-            if runs_hold(cu, runs, count) {
-                return 0;
-            }
-            return 8;
-        }
-        return 7;
+    let mut i: usize = 0;
+    while i < n {
+        list[i] = bytes[i];
+        i += 1;
     }
-    2
+}
+
+// Yes only where a block without escapes has room for its bins, however long its codes are.
+fn roomy(block: &[u16], count: usize, room: usize) -> bool
+    requires { ⌜ 4432 ≤ length (now block) ⌝ }
+    ensures { λ r. ⌜ (r ≡ true → (number (now (block .entry)) 8 ≡ 1 → ⊥) × (16451 + 97 * count ≤ room)) ⌝ }
+{
+    if block[8] == 1 {
+        return false;
+    }
+    if count <= 1024 {
+        return 16451 + 97 * count <= room;
+    }
+    false
 }
 
 // A refusal.
-pub fn refused(number: u8) -> Written
+fn refused(number: u8) -> Written
     ensures { λ r. ⌜ r ≡ record { refusal = number; bins = 0 } ⌝ }
 {
     Written {
@@ -164,22 +129,42 @@ pub fn refused(number: u8) -> Written
     }
 }
 
-// The bins of a block and the first `count` runs of a list of numbers.
-fn write_runs(list: &mut [u8], cu: PaletteCu, runs: &[u32], count: usize) -> Written
-    requires { ⌜ 4096 ≤ length (now runs) ⌝ }
-    ensures { λ r. ⌜ (r ≡ writeOf cu (runsOf (now (runs .entry)) count) count (length (now (list .entry)))) × (now (list .exit) ≡ listAfter cu (runsOf (now (runs .entry)) count) count (now (list .entry))) ⌝ }
+// The bins of a block that holds together and its first `count` runs, with refusals 8 and 9.
+pub fn write_lists(list: &mut [u8], block: &[u16], runs: &[u32], count: usize) -> Written
+    requires { ⌜ Lists (now block) (now runs) count ⌝ }
+    ensures { λ r. ⌜ (r ≡ writeOf (blockOf (now (block .entry))) (runsOf (now (runs .entry)) count) count (length (now (list .entry)))) × (now (list .exit) ≡ listAfter (blockOf (now (block .entry))) (runsOf (now (runs .entry)) count) count (now (list .entry))) ⌝ }
 {
-    let k = refusal_of(cu, runs, count);
-    if k == 0 {
-        let mut none = [0u8; 1];
-        let length = put_block(&mut none[..0], cu, runs, count);
-        if list.len() < length {
+    if runs_hold(block, runs, count) {
+        if roomy(block, count, list.len()) {
+            let bins = put_block(list, block, runs, count);
+            return Written { refusal: 0, bins };
+        }
+        let mut bytes = [0u8; 4096];
+        let n = put_block(&mut bytes[..4096], block, runs, count);
+        if list.len() < n {
             return refused(9);
         }
-        let bins = put_block(list, cu, runs, count);
+        if n <= 4096 {
+            lay(list, &bytes, n);
+            return Written {
+                refusal: 0,
+                bins: n,
+            };
+        }
+        let bins = put_block(list, block, runs, count);
         return Written { refusal: 0, bins };
     }
-    refused(k)
+    refused(8)
+}
+
+// A block that holds together as a list of numbers, which is that block again.
+fn flat_block(cu: PaletteCu) -> [u16; 4432]
+    requires { ⌜ holds 64 cu ≡ true ⌝ }
+    ensures { λ r. ⌜ blockOf r ≡ cu ⌝ }
+{
+    let mut block = [0u16; 4432];
+    lay_block(cu, &mut block[..4432]);
+    block
 }
 
 // The bins of a block and its first `count` runs, laid from the list's start on; with document 01's refusals 2, 7, 8 and 9.
@@ -191,7 +176,14 @@ pub fn write_palette_cu(
 ) -> Written
     ensures { λ r. ⌜ (r ≡ writeOf cu runs count (length (now (list .entry)))) × (now (list .exit) ≡ listAfter cu runs count (now (list .entry))) ⌝ }
 {
-    let mut numbers = [0u32; 4096];
-    lay_runs(runs, count, &mut numbers[..4096]);
-    write_runs(list, cu, &numbers, count)
+    if block_size_in(cu) {
+        if holds_together(64, cu) {
+            let block = flat_block(cu);
+            let mut numbers = [0u32; 4096];
+            lay_runs(runs, count, &mut numbers[..4096]);
+            return write_lists(list, &block, &numbers, count);
+        }
+        return refused(7);
+    }
+    refused(2)
 }

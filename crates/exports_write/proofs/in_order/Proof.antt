@@ -15,7 +15,7 @@ block-ready-requires : tie.Need-block-ready-requires
 block-ready-requires c κs = omega arith
 
 returns : tie.Need-returns
-returns c = λ e. let b = c .block-ready .ensures e in record { block = b .block; together = b .together; few = omega arith; runs = omega arith }
+returns c = λ e. let b = c .block-ready .ensures e in record { block = b .block; together = b .together; runs = λ h. omega arith }
 
 returns-2 : tie.Need-returns-2
 returns-2 c = λ e. absurd (true-false (sym e))

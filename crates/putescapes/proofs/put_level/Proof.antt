@@ -4,6 +4,10 @@ use Rattle.h265.specs.StringLaws.{length-bits}
 use borrow.Author.Needs.{needs}
 use Rattle.putescapes.proofs.put_level.Statement.{statement}
 use Rattle.putescapes.proofs.put_level.Tie as tie
+use Rattle.putescapes.proofs.put_level.Reads as reads
+use Rattle.putescapes.proofs.put_level.Lts as lts
+use Rattle.put.proofs.put_bits.Reads as put-bits-reads
+use Rattle.putgolomb.proofs.put_egk.Reads as put-egk-reads
 
 put-bits-requires : tie.Need-put-bits-requires
 put-bits-requires c κs = (omega arith, omega arith)
