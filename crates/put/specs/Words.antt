@@ -64,10 +64,10 @@ laid-twice k n w l at {m} {o} h g e f =
     record {
       next = ap (λ (x : ℕ). at + x) (sym (length-bytes n w));
       after =
-        f ∙ ap (λ (x : List ℕ). sets x (at + a) (bytes k v)) (e ∙ u)
-        ∙ sets-over (bytes (k - a) v) (bytes k v) (sets l at (bytes a w)) (at + a) (omega (arith, length-bytes (k - a) v, length-bytes k v))
-        ∙ rw (length-bytes a w) at (sets-append (bytes a w) (bytes k v) l at)
-        ∙ ap (sets l at) (sym r);
+          f ∙ ap (λ (x : List ℕ). sets x (at + a) (bytes k v)) (e ∙ u)
+          ∙ sets-over (bytes (k - a) v) (bytes k v) (sets l at (bytes a w)) (at + a) (omega (arith, length-bytes (k - a) v, length-bytes k v))
+          ∙ rw (length-bytes a w) at (sets-append (bytes a w) (bytes k v) l at)
+          ∙ ap (sets l at) (sym r);
     }
 
 -- ---- bits spread

@@ -1,11 +1,11 @@
 -- The bytes of a run prefix's zeros, class × 2, as one number in base 256: from bin i on.
-use mathlib.Core.Path.{_≡_, refl, sym, _∙_}
+use mathlib.Core.Path.{_≡_, refl}
 use mathlib.Core.Bool.{Bool, true, false}
-use Prim.Native.Nat.{ℕ, zero, suc, _+_, _*_, _/_, _%_, _≤_, _<_}
+use Prim.Native.Nat.{ℕ, zero, suc, _+_, _*_, _≤_}
 use native.Mathlib.Numerals.{add-one}
 use native.Mathlib.Omega.{arith}
 use lib.Dec.{eqb, ltb}
-use borrow.Author.Tests.{ne-eqb, le-ltb}
+use borrow.Author.Tests.{ne-eqb, lt-ltb, le-ltb}
 use Rattle.base.specs.Pick.{pick}
 use Rattle.h265.specs.Strings.{runClass}
 
@@ -49,24 +49,11 @@ class-most above sent i =
     (pick-most above 8 (pick (eqb sent 0) 3 (pick (ltb sent 3) 4 5)) 10 (omega arith) (pick-most (eqb sent 0) 3 (pick (ltb sent 3) 4 5) 10 (omega arith) (pick-most (ltb sent 3) 4 5 10 (omega arith) (omega arith))))
     (pick-most (ltb i 3) (pick above 9 6) (pick (ltb i 5) (pick above 10 7) 0) 10 (pick-most above 9 6 10 (omega arith) (omega arith)) (pick-most (ltb i 5) (pick above 10 7) 0 10 (pick-most above 10 7 10 (omega arith) (omega arith)) (omega arith)))
 
--- the bytes of the bins 0 to 4, as the word holds them
-pub record Bytes (above : Bool) (sent w : ℕ) : Type 0 where
-  pub bin0 : w % 256 ≡ runClass above sent 0 * 2
-  pub bin1 : w / 256 % 256 ≡ runClass above sent 1 * 2
-  pub bin2 : w / 65536 % 256 ≡ runClass above sent 2 * 2
-  pub bin3 : w / 16777216 % 256 ≡ runClass above sent 3 * 2
-  pub bin4 : w / 4294967296 % 256 ≡ runClass above sent 4 * 2
-
-pub bytes : (above : Bool) (sent : ℕ) {w : ℕ} → w ≡ wordFrom above sent 0 → Bytes above sent w
-bytes above sent {w} e =
-    let n0 = word-next above sent 0 in
-    let n1 = word-next above sent 1 in
-    let n2 = word-next above sent 2 in
-    let n3 = word-next above sent 3 in
-    let n4 = word-next above sent 4 in
-    let m0 = class-most above sent 0 in
-    let m1 = class-most above sent 1 in
-    let m2 = class-most above sent 2 in
-    let m3 = class-most above sent 3 in
-    let m4 = class-most above sent 4 in
-    record { bin0 = omega arith; bin1 = omega arith; bin2 = omega arith; bin3 = omega arith; bin4 = omega arith }
+-- the first bin's class goes up by one at 1 and at 3
+pub word-steps : (sent : ℕ) → 60365212678 + pick (ltb 0 sent) 2 0 + pick (ltb 2 sent) 2 0 ≡ wordFrom false sent 0
+unfolding wordFrom runClass
+word-steps zero = refl
+word-steps (suc zero) = refl
+word-steps (suc (suc zero)) = refl
+word-steps (suc (suc (suc n))) =
+    rw (lt-ltb 0 (suc (suc (suc n))) (omega arith), lt-ltb 2 (suc (suc (suc n))) (omega arith), ne-eqb (suc (suc (suc n))) 0 (λ e. omega arith), le-ltb (suc (suc (suc n))) 3 (omega arith))

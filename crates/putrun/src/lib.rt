@@ -18,6 +18,13 @@ use put::put_bits;
 use put::put_tb;
 use put::spread_seven;
 
+// 2 where a number is past another, else 0: the step to the next class.
+fn past(n: u32, sent: u32) -> u64
+    ensures { λ r. ⌜ (r ≡ pick (ltb n sent) 2 0) × (r ≤ 2) ⌝ }
+{
+    if n < sent { 2 } else { 0 }
+}
+
 // The bytes of the prefix's zeros in base 256, that of bin 0 lowest.
 fn word_of(above: bool, sent: u32) -> u64
     ensures { λ r. ⌜ r ≡ wordFrom above sent 0 ⌝ }
@@ -25,13 +32,7 @@ fn word_of(above: bool, sent: u32) -> u64
     if above {
         return 86236074512;
     }
-    if sent == 0 {
-        return 60365212678;
-    }
-    if sent < 3 {
-        return 60365212680;
-    }
-    60365212682
+    60365212678 + past(0, sent) + past(2, sent)
 }
 
 // So many ones, a byte each.

@@ -26,12 +26,11 @@ prefix-of-requires : tie.Need-prefix-of-requires
 prefix-of-requires c κs = search needs
 
 put-prefix-requires : tie.Need-put-prefix-requires
-put-prefix-requires c κs =
-    (
-      omega (arith, c .before .before .flog .ensures, c .prefix-of .ensures, prefix-most (c .before .before .before .before .before .args .longest) (c .before .before .before .before .before .args .more) (omega arith) (omega arith)),
-      omega (arith, c .before .before .flog .ensures, flog-most (c .before .before .before .before .before .args .longest) 11 (omega arith) (omega arith)),
-      omega arith,
-    )
+put-prefix-requires c κs = (
+  omega (arith, c .before .before .flog .ensures, c .prefix-of .ensures, prefix-most (c .before .before .before .before .before .args .longest) (c .before .before .before .before .before .args .more) (omega arith) (omega arith)),
+  omega (arith, c .before .before .flog .ensures, flog-most (c .before .before .before .before .before .args .longest) 11 (omega arith) (omega arith)),
+  omega arith,
+)
 
 put-suffix-requires : tie.Need-put-suffix-requires
 put-suffix-requires c κs = (omega arith, omega arith, omega (arith, c .before .before .before .put-prefix .ensures .1))
@@ -40,11 +39,10 @@ same-length : tie.Need-same-length
 same-length c = search needs
 
 returns-2 : tie.Need-returns-2
-returns-2 c =
-    (
-      rw (runs-some (c .before .before .before .before .before .before .before .before .before .before .before .before .args .longest) (c .before .before .before .before .before .before .before .before .before .before .before .before .args .above) (c .before .before .before .before .before .before .before .before .before .before .before .before .args .sent) (c .before .before .before .before .before .before .before .before .before .before .before .before .args .more) (omega arith), ← c .before .before .before .before .before .before .before .before .before .flog .ensures, ← c .before .before .before .before .before .before .before .prefix-of .ensures) (laid-then (c .before .before .before .before .before .before .put-prefix .ensures .0) (c .before .before .put-suffix .ensures .0)),
-      omega (arith, c .before .before .put-suffix .ensures .1, c .before .before .before .before .before .before .put-prefix .ensures .1),
-    )
+returns-2 c = (
+  rw (runs-some (c .before .before .before .before .before .before .before .before .before .before .before .before .args .longest) (c .before .before .before .before .before .before .before .before .before .before .before .before .args .above) (c .before .before .before .before .before .before .before .before .before .before .before .before .args .sent) (c .before .before .before .before .before .before .before .before .before .before .before .before .args .more) (omega arith), ← c .before .before .before .before .before .before .before .before .before .flog .ensures, ← c .before .before .before .before .before .before .before .prefix-of .ensures) (laid-then (c .before .before .before .before .before .before .put-prefix .ensures .0) (c .before .before .put-suffix .ensures .0)),
+  omega (arith, c .before .before .put-suffix .ensures .1, c .before .before .before .before .before .before .put-prefix .ensures .1),
+)
 
 pub put-any-spec : {M : Type 1} → statement M
 put-any-spec =
