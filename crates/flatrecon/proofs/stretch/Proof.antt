@@ -12,7 +12,7 @@ use Rattle.flatrecon.proofs.paint.Reads as paint-reads
 use Rattle.flatrecon.proofs.quiet.Reads as quiet-reads
 
 quiet-requires : tie.Need-quiet-requires
-quiet-requires c κs = (c .before .pre .1, c .before .pre .3)
+quiet-requires c κs = (c .before .pre .1, omega arith)
 
 paint-requires : tie.Need-paint-requires
 paint-requires c κs = let s = c .before .before .before .before .args in (c .before .before .before .before .pre .1, c .before .before .before .before .pre .2, omega arith, quiet-indexed (s .list .now) (s .i) (s .n) (s .p) (sym (c .before .before .quiet .ensures) ∙ c .before .if1 .taken) (c .before .before .before .before .pre .4) (c .before .before .before .before .pre .5) (c .before .before .before .before .pre .6))
