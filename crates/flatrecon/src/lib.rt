@@ -47,8 +47,8 @@ fn entries_in(list: &[u16], n: usize) -> [u64; 64]
 }
 
 // The entries of n cells from cell i on, none of which escapes.
-fn paint(palette: &[u64; 64], list: &[u16], i: usize, n: usize, out: &mut [u64; 1024])
-    requires { ⌜ (4432 ≤ length (now list)) × (length (now palette) ≡ 64) × (i + n ≤ 1024) × Indexed (now list) i n 63 ⌝ }
+fn paint(palette: &[u64; 64], list: &[u16], i: usize, n: usize, out: &mut [u64])
+    requires { ⌜ (4432 ≤ length (now list)) × (length (now palette) ≡ 64) × (i + n ≤ 1024) × (i + n ≤ length (now out)) × Indexed (now list) i n 63 ⌝ }
     ensures { λ _. ⌜ now (out .exit) ≡ laid (λ j. getD (now (palette .entry)) (number (now (list .entry)) (336 + j)) 0) (now (out .entry)) i n ⌝ }
 {
     let mut k: usize = 0;
@@ -94,16 +94,8 @@ fn value(s: Scale, palette: &[u64; 64], list: &[u16], p: u16, i: usize) -> u64
 }
 
 // What n cells from cell i on decode to.
-fn decode(
-    s: Scale,
-    palette: &[u64; 64],
-    list: &[u16],
-    p: u16,
-    i: usize,
-    n: usize,
-    out: &mut [u64; 1024],
-)
-    requires { ⌜ Fit s × (4432 ≤ length (now list)) × (length (now palette) ≡ 64) × (i + n ≤ 1024) ⌝ }
+fn decode(s: Scale, palette: &[u64; 64], list: &[u16], p: u16, i: usize, n: usize, out: &mut [u64])
+    requires { ⌜ Fit s × (4432 ≤ length (now list)) × (length (now palette) ≡ 64) × (i + n ≤ 1024) × (i + n ≤ length (now out)) ⌝ }
     ensures { λ _. ⌜ now (out .exit) ≡ laid (valueOf s (now (palette .entry)) (now (list .entry)) p) (now (out .entry)) i n ⌝ }
 {
     let mut k: usize = 0;
@@ -115,16 +107,8 @@ fn decode(
 }
 
 // The same of at most 16 cells, straight from the palette where none escapes.
-fn stretch(
-    s: Scale,
-    palette: &[u64; 64],
-    list: &[u16],
-    p: u16,
-    i: usize,
-    n: usize,
-    out: &mut [u64; 1024],
-)
-    requires { ⌜ Fit s × (4432 ≤ length (now list)) × (length (now palette) ≡ 64) × (i + 16 ≤ 1024) × (n ≤ 16) × (p ≤ 64) × Indexed (now list) i n p ⌝ }
+fn stretch(s: Scale, palette: &[u64; 64], list: &[u16], p: u16, i: usize, n: usize, out: &mut [u64])
+    requires { ⌜ Fit s × (4432 ≤ length (now list)) × (length (now palette) ≡ 64) × (i + 16 ≤ 1024) × (n ≤ 16) × (i + n ≤ length (now out)) × (p ≤ 64) × Indexed (now list) i n p ⌝ }
     ensures { λ _. ⌜ now (out .exit) ≡ laid (valueOf s (now (palette .entry)) (now (list .entry)) p) (now (out .entry)) i n ⌝ }
 {
     if quiet(list, i, p) {
@@ -145,8 +129,8 @@ fn least(a: usize, b: usize) -> usize
 }
 
 // What the first m cells decode to, 16 at a time.
-fn values(s: Scale, palette: &[u64; 64], list: &[u16], p: u16, m: usize, out: &mut [u64; 1024])
-    requires { ⌜ Fit s × (4432 ≤ length (now list)) × (length (now palette) ≡ 64) × (m ≤ 1024) × (p ≤ 64) × Indexed (now list) 0 m p ⌝ }
+fn values(s: Scale, palette: &[u64; 64], list: &[u16], p: u16, m: usize, out: &mut [u64])
+    requires { ⌜ Fit s × (4432 ≤ length (now list)) × (length (now palette) ≡ 64) × (m ≤ 1024) × (m ≤ length (now out)) × (p ≤ 64) × Indexed (now list) 0 m p ⌝ }
     ensures { λ _. ⌜ now (out .exit) ≡ laid (valueOf s (now (palette .entry)) (now (list .entry)) p) (now (out .entry)) 0 m ⌝ }
 {
     let mut g: usize = 0;
@@ -158,8 +142,8 @@ fn values(s: Scale, palette: &[u64; 64], list: &[u16], p: u16, m: usize, out: &m
 }
 
 // The colours of the first m cells.
-fn cell_colors(c: PaletteConfig, list: &[u16], m: usize, out: &mut [u64; 1024])
-    requires { ⌜ (configIn c ≡ true) × BlockReady (now list) × (m ≤ number (now list) 0 * number (now list) 0) ⌝ }
+fn cell_colors(c: PaletteConfig, list: &[u16], m: usize, out: &mut [u64])
+    requires { ⌜ (configIn c ≡ true) × BlockReady (now list) × (m ≤ number (now list) 0 * number (now list) 0) × (m ≤ length (now out)) ⌝ }
     ensures { λ _. ⌜ now (out .exit) ≡ laid (cellColor c (blockOf (now (list .entry)))) (now (out .entry)) 0 m ⌝ }
 {
     let p = list[5];
@@ -172,8 +156,37 @@ fn cell_colors(c: PaletteConfig, list: &[u16], m: usize, out: &mut [u64; 1024])
     paint(&palette, list, 0, m, out);
 }
 
-// The block onto the planes; only cells of rows that lie in them are decoded.
+// The block onto the planes; only cells of rows that lie in them are decoded, onto a list lent for them.
 fn put_list(
+    luma: &mut [u16],
+    cb: &mut [u16],
+    cr: &mut [u16],
+    ys: usize,
+    cs: usize,
+    c: PaletteConfig,
+    g: SourceBlock,
+    block: &[u16],
+    cells: &mut [u64],
+)
+    requires { ⌜ Ready c g ys cs (length (now luma)) (length (now cb)) (length (now cr)) × BlockReady (now block) × (blockIn c g (blockOf (now block)) ≡ true) × (number (now block) 0 * number (now block) 0 ≤ length (now cells)) ⌝ }
+    ensures { λ _. ⌜ (now (luma .exit) ≡ lumaAfter ys c g (blockOf (now (block .entry))) (now (luma .entry)))
+        × (now (cb .exit) ≡ chromaAfter cs c g (blockOf (now (block .entry))) 1 (now (cb .entry)))
+        × (now (cr .exit) ≡ chromaAfter cs c g (blockOf (now (block .entry))) 2 (now (cr .entry))) ⌝ }
+{
+    let size = block[0] as usize;
+    let turned = block[9] == 1;
+    let format = byte(block[1]);
+    let l = recon::luma_onto(ys, g, size, turned);
+    let b = recon::chroma_onto(cs, format, g, size, turned, 1);
+    let r = recon::chroma_onto(cs, format, g, size, turned, 2);
+    let n = recon::block_rows(format, l, b);
+    cell_colors(c, block, n * size, cells);
+    onto::put_plane(luma, cells, l);
+    recon::put_chroma(format, cb, cr, cells, b, r);
+}
+
+// The same with no more cells cleared than blocks of 8, 16 or 32 have.
+fn put_block(
     luma: &mut [u16],
     cb: &mut [u16],
     cr: &mut [u16],
@@ -188,17 +201,19 @@ fn put_list(
         × (now (cb .exit) ≡ chromaAfter cs c g (blockOf (now (block .entry))) 1 (now (cb .entry)))
         × (now (cr .exit) ≡ chromaAfter cs c g (blockOf (now (block .entry))) 2 (now (cr .entry))) ⌝ }
 {
-    let size = block[0] as usize;
-    let turned = block[9] == 1;
-    let format = byte(block[1]);
-    let l = recon::luma_onto(ys, g, size, turned);
-    let b = recon::chroma_onto(cs, format, g, size, turned, 1);
-    let r = recon::chroma_onto(cs, format, g, size, turned, 2);
-    let n = recon::block_rows(format, l, b);
-    let mut values: [u64; 1024] = [0; 1024];
-    cell_colors(c, block, n * size, &mut values);
-    onto::put_plane(luma, &values, l);
-    recon::put_chroma(format, cb, cr, &values, b, r);
+    let size = block[0];
+    if size <= 8 {
+        let mut few: [u64; 64] = [0; 64];
+        put_list(luma, cb, cr, ys, cs, c, g, block, &mut few);
+        return;
+    }
+    if size <= 16 {
+        let mut some: [u64; 256] = [0; 256];
+        put_list(luma, cb, cr, ys, cs, c, g, block, &mut some);
+        return;
+    }
+    let mut all: [u64; 1024] = [0; 1024];
+    put_list(luma, cb, cr, ys, cs, c, g, block, &mut all);
 }
 
 // Whether a block's format, depths, lossless flag and size are the call's.
@@ -236,7 +251,7 @@ pub fn reconstruct_list(
         return k;
     }
     if matches_call(c, g, block) {
-        put_list(luma, cb, cr, ys, cs, c, g, block);
+        put_block(luma, cb, cr, ys, cs, c, g, block);
         return 0;
     }
     7

@@ -1,7 +1,7 @@
 // The reconstruction of a block onto lent planes.
 ghost use mathlib.Core.Path.{_≡_};
 ghost use mathlib.Core.Bool.{true, not};
-ghost use Prim.Native.Nat.{_/_, _≤_, max};
+ghost use Prim.Native.Nat.{_*_, _/_, _≤_, max};
 ghost use lib.Dec.{eqb};
 ghost use lib.ListN.{length, getD};
 ghost use Rattle.base.specs.Pick.{pick};
@@ -167,15 +167,8 @@ fn cell_colors(c: PaletteConfig, cu: PaletteCu, m: usize, out: &mut [u64; 1024])
 }
 
 // The block onto the chroma planes, where there are any.
-pub fn put_chroma(
-    format: u8,
-    cb: &mut [u16],
-    cr: &mut [u16],
-    values: &[u64; 1024],
-    b: Onto,
-    r: Onto,
-)
-    requires { ⌜ (1 ≤ format → Apt b (length (now cb))) × (1 ≤ format → Apt r (length (now cr))) ⌝ }
+pub fn put_chroma(format: u8, cb: &mut [u16], cr: &mut [u16], values: &[u64], b: Onto, r: Onto)
+    requires { ⌜ (1 ≤ format → Apt b (length (now cb))) × (1 ≤ format → Apt r (length (now cr))) × (b .size * b .size ≤ length (now values)) × (r .size * r .size ≤ length (now values)) ⌝ }
     ensures { λ _. ⌜ (now (cb .exit) ≡ pick (eqb format 0) (now (cb .entry)) (after b (fromCells b (now (values .entry))) (now (cb .entry))))
         × (now (cr .exit) ≡ pick (eqb format 0) (now (cr .entry)) (after r (fromCells r (now (values .entry))) (now (cr .entry)))) ⌝ }
 {

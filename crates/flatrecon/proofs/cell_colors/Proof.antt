@@ -20,29 +20,35 @@ cast-entries-in : tie.Need-cast-entries-in
 cast-entries-in c = search needs
 
 entries-in-requires : tie.Need-entries-in-requires
-entries-in-requires c κs = (c .before .before .pre .1 .block, c .before .before .pre .1 .entries)
+entries-in-requires c κs = (c .before .before .before .pre .1 .block, c .before .before .before .pre .1 .entries)
 
 shared-slice-read-if1 : tie.Need-shared-slice-read-if1
 shared-slice-read-if1 c = search needs
 
 scale-of-requires : tie.Need-scale-of-requires
-scale-of-requires c κs = c .before .before .before .before .before .pre .0
+scale-of-requires c κs = c .before .before .before .before .before .before .pre .0
 
 values-requires : tie.Need-values-requires
 values-requires c κs =
-    let b = c .before .before .before .before .before .before .before .before .args .list .now in
-    (rw (c .before .before .scale-of .ensures) (scale-fit (c .before .before .before .before .before .before .before .before .args .c) (c .before .before .before .before .before .before .before .before .pre .0)), c .before .before .before .before .before .before .before .before .pre .1 .block, c .before .before .before .before .before .entries-in .ensures .1, omega (arith, cells-few b (c .before .before .before .before .before .before .before .before .pre .1)), c .before .before .before .before .before .before .before .before .pre .1 .entries, indexed b (c .before .before .before .before .before .before .before .before .pre .1) (c .before .before .before .before .before .before .before .before .args .m) (c .before .before .before .before .before .before .before .before .pre .2))
+    let b = c .before .before .before .before .before .before .before .before .before .args .list .now in
+    (rw (c .before .before .scale-of .ensures) (scale-fit (c .before .before .before .before .before .before .before .before .before .args .c) (c .before .before .before .before .before .before .before .before .before .pre .0)), c .before .before .before .before .before .before .before .before .before .pre .1 .block, c .before .before .before .before .before .entries-in .ensures .1, omega (arith, cells-few b (c .before .before .before .before .before .before .before .before .before .pre .1)), c .before .before .before .before .before .before .before .before .before .pre .3, c .before .before .before .before .before .before .before .before .before .pre .1 .entries, indexed b (c .before .before .before .before .before .before .before .before .before .pre .1) (c .before .before .before .before .before .before .before .before .before .args .m) (c .before .before .before .before .before .before .before .before .before .pre .2))
+
+same-length : tie.Need-same-length
+same-length c = search needs
 
 returns : tie.Need-returns
-returns c = let s = c .before .before .before .before .before .before .before .before .before .args in rw (c .before .before .before .scale-of .ensures) at (c .values .ensures) ∙ decoded (s .list .now) (c .before .before .before .before .before .before .before .before .before .pre .1) (s .c) _ (c .before .before .before .before .before .before .entries-in .ensures .0) (s .out .now) (s .m) (c .before .before .before .before .before .before .before .before .before .pre .2)
+returns c = let s = c .before .before .before .before .before .before .before .before .before .before .before .before .args in rw (c .before .before .before .before .before .scale-of .ensures) at (c .before .before .values .ensures) ∙ decoded (s .list .now) (c .before .before .before .before .before .before .before .before .before .before .before .before .pre .1) (s .c) _ (c .before .before .before .before .before .before .before .before .entries-in .ensures .0) (s .out .now) (s .m) (c .before .before .before .before .before .before .before .before .before .before .before .before .pre .2)
 
 paint-requires : tie.Need-paint-requires
 paint-requires c κs =
-    let b = c .before .before .before .before .before .before .before .args .list .now in
-    (c .before .before .before .before .before .before .before .pre .1 .block, c .before .before .before .before .entries-in .ensures .1, omega (arith, cells-few b (c .before .before .before .before .before .before .before .pre .1)), indexed-off b (c .before .before .before .before .before .before .before .pre .1) (c .before .before .before .before .before .before .before .args .m) (c .before .before .before .before .before .before .before .pre .2) (c .before .before .if1 .left))
+    let b = c .before .before .before .before .before .before .before .before .args .list .now in
+    (c .before .before .before .before .before .before .before .before .pre .1 .block, c .before .before .before .before .entries-in .ensures .1, omega (arith, cells-few b (c .before .before .before .before .before .before .before .before .pre .1)), omega (arith, c .before .before .before .before .before .before .before .before .pre .3), indexed-off b (c .before .before .before .before .before .before .before .before .pre .1) (c .before .before .before .before .before .before .before .before .args .m) (c .before .before .before .before .before .before .before .before .pre .2) (c .before .before .if1 .left))
+
+same-length-2 : tie.Need-same-length-2
+same-length-2 c = search needs
 
 returns-2 : tie.Need-returns-2
-returns-2 c = let s = c .before .before .before .before .before .before .before .before .args in c .paint .ensures ∙ painted (s .list .now) (c .before .before .before .before .before .before .before .before .pre .1) (s .c) _ (c .before .before .before .before .before .entries-in .ensures .0) (s .out .now) (s .m) (c .before .before .before .before .before .before .before .before .pre .2) (c .before .before .before .if1 .left)
+returns-2 c = let s = c .before .before .before .before .before .before .before .before .before .before .before .args in c .before .before .paint .ensures ∙ painted (s .list .now) (c .before .before .before .before .before .before .before .before .before .before .before .pre .1) (s .c) _ (c .before .before .before .before .before .before .before .entries-in .ensures .0) (s .out .now) (s .m) (c .before .before .before .before .before .before .before .before .before .before .before .pre .2) (c .before .before .before .before .before .if1 .left)
 
 pub cell-colors-spec : {M : Type 1} → statement M
 cell-colors-spec =
@@ -54,6 +60,8 @@ cell-colors-spec =
     shared-slice-read-if1
     scale-of-requires
     values-requires
+    same-length
     returns
     paint-requires
+    same-length-2
     returns-2)

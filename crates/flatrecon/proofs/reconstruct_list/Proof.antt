@@ -12,7 +12,7 @@ use Rattle.flatrecon.proofs.reconstruct_list.Tie as tie
 use Rattle.flatrecon.proofs.reconstruct_list.Reads as reads
 use Rattle.flatrecon.proofs.reconstruct_list.Lts as lts
 use Rattle.flatrecon.proofs.matches_call.Reads as matches-call-reads
-use Rattle.flatrecon.proofs.put_list.Reads as put-list-reads
+use Rattle.flatrecon.proofs.put_block.Reads as put-block-reads
 use Rattle.targets.proofs.target_refusal.Reads as target-refusal-reads
 
 target-refusal-requires : tie.Need-target-refusal-requires
@@ -27,8 +27,8 @@ returns c =
 matches-call-requires : tie.Need-matches-call-requires
 matches-call-requires c κs = c .before .before .before .before .before .before .pre .block
 
-put-list-requires : tie.Need-put-list-requires
-put-list-requires c κs =
+put-block-requires : tie.Need-put-block-requires
+put-block-requires c κs =
     let s = c .before .before .before .before .before .before .before .before .before .before .before .args in
     (ready (s .c) (s .g) (s .ys) (s .cs) (length (s .luma .now)) (length (s .cb .now)) (length (s .cr .now)) (sym (c .before .before .before .before .before .before .target-refusal .ensures) ∙ c .before .before .before .before .before .if1 .left), c .before .before .before .before .before .before .before .before .before .before .before .pre, sym (in-call (s .block .now) (c .before .before .before .before .before .before .before .before .before .before .before .pre) (s .c) (s .g) _ (c .before .before .before .before .matches-call .ensures)) ∙ c .before .before .before .if2 .taken)
 
@@ -44,7 +44,7 @@ same-length-3 c = search needs
 returns-2 : tie.Need-returns-2
 returns-2 c =
     let s = c .before .before .before .before .before .before .before .before .before .before .before .before .before .before .before .before .before .before .args in
-    let e = c .before .before .before .before .before .before .put-list .ensures in
+    let e = c .before .before .before .before .before .before .put-block .ensures in
     laid-answer (s .luma .now) (s .cb .now) (s .cr .now) (s .ys) (s .cs) (s .c) (s .g) (blockOf (s .block .now)) _ _ _ (sym (c .before .before .before .before .before .before .before .before .before .before .before .before .before .target-refusal .ensures) ∙ c .before .before .before .before .before .before .before .before .before .before .before .before .if1 .left) (sym (in-call (s .block .now) (c .before .before .before .before .before .before .before .before .before .before .before .before .before .before .before .before .before .before .pre) (s .c) (s .g) _ (c .before .before .before .before .before .before .before .before .before .before .before .matches-call .ensures)) ∙ c .before .before .before .before .before .before .before .before .before .before .if2 .taken) (e .0) (e .1) (e .2)
 
 returns-3 : tie.Need-returns-3
@@ -59,7 +59,7 @@ reconstruct-list-spec =
     target-refusal-requires
     returns
     matches-call-requires
-    put-list-requires
+    put-block-requires
     same-length
     same-length-2
     same-length-3
