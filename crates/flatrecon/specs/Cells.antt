@@ -6,18 +6,18 @@ use mathlib.Core.Logic.{⊎-elim}
 use Prim.Native.Nat.{ℕ, _+_, _*_, _-_, _≤_, _<_}
 use native.Mathlib.Nat.{min-eq-left, min-eq-right, mul-le-mul}
 use native.Mathlib.Omega.{arith}
-use borrow.Author.Tests.{ne-eqb, eqb-true, eqb-false, not-true}
+use borrow.Author.Tests.{ne-eqb, eqb-false, not-true}
 use lib.Dec.{eqb}
-use lib.ListN.{length, getD, replicate, length-replicate, List·getD-map}
+use lib.ListN.{getD, replicate, length-replicate, List·getD-map}
 use Rattle.base.specs.Cells.{laid, laid-in, laid-same}
-use Rattle.base.specs.Pick.{pick, either, lt-or-le}
+use Rattle.base.specs.Pick.{either, lt-or-le}
 use Rattle.base.specs.Tests.{every, ands, upTo, up-to-at}
 use Rattle.h265.specs.Strings.{bit}
 use Rattle.h265.specs.BitLaws.{bit-below}
 use Rattle.model.specs.declared.PaletteConfig.{PaletteConfig}
 use Rattle.model.specs.declared.SourceBlock.{SourceBlock}
 use Rattle.model.specs.Domain.{noColor}
-use Rattle.model.specs.Whole.{noLevels, maxIndex, holds, matches, matchesSize}
+use Rattle.model.specs.Whole.{noLevels, maxIndex, matches, matchesSize}
 use Rattle.model.specs.WholeLaws.{whole}
 use Rattle.entries.specs.Entries.{packedOf, paletteOf}
 use Rattle.levels.specs.declared.Scale.{Scale}

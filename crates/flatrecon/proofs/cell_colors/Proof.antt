@@ -1,5 +1,5 @@
 -- `flatrecon::cell_colors`: with escapes on what the cells decode to, else their entries.
-use mathlib.Core.Path.{_≡_, sym, _∙_}
+use mathlib.Core.Path.{_∙_}
 use native.Mathlib.Omega.{arith}
 use Rattle.levels.specs.Laws.{scale-fit}
 use Rattle.flatrecon.specs.Cells.{cells-few, indexed, indexed-off, decoded, painted}

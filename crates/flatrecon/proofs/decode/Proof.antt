@@ -1,6 +1,6 @@
 -- `flatrecon::decode`. The loop's invariant: what the cells passed decode to is laid.
 use mathlib.Core.Path.{_≡_, refl, sym, _∙_}
-use Prim.Native.Nat.{ℕ, _+_, _-_, _≤_}
+use Prim.Native.Nat.{_+_, _-_, _≤_}
 use native.Mathlib.Omega.{arith}
 use lib.ListN.{length, length-set}
 use Rattle.base.specs.Cells.{laid, laid-none, laid-step, laid-done}

@@ -1,10 +1,8 @@
 -- `flatrecon::matches_call`: the tests in a row.
 use mathlib.Core.Bool.{Bool·beq}
-use mathlib.Core.List.{[], _∷_}
-use mathlib.Core.Path.{_≡_, sym, _∙_}
+use mathlib.Core.Path.{_∙_}
 use native.Mathlib.Omega.{arith}
 use lib.Dec.{eqb}
-use Rattle.base.specs.Tests.{ands-every}
 use Rattle.model.specs.Whole.{matches, matchesSize}
 use Rattle.flat.specs.Flat.{number, blockOf}
 use Rattle.whole.specs.Parts.{beq-same}

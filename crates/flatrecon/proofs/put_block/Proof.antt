@@ -1,5 +1,4 @@
 -- `flatrecon::put_block`: a list that has room for the block's cells is lent.
-use mathlib.Core.Path.{_≡_}
 use Prim.Native.Nat.{ℕ, _*_, _≤_}
 use native.Mathlib.Nat.{mul-le-mul}
 use native.Mathlib.Omega.{arith}

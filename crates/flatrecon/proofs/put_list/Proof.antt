@@ -1,13 +1,12 @@
 -- `flatrecon::put_list`: the colours of the cells that lie in the planes, then plane by plane.
-use mathlib.Core.Path.{_≡_, refl, sym, _∙_}
-use Prim.Native.Nat.{ℕ, _*_, _≤_}
+use mathlib.Core.Path.{refl}
+use Prim.Native.Nat.{_*_, _≤_}
 use native.Mathlib.Nat.{mul-le-mul}
 use native.Mathlib.Omega.{arith}
-use lib.Dec.{eqb}
 use lib.ListN.{length}
 use Rattle.flat.specs.Flat.{number, byte, blockOf}
 use Rattle.onto.specs.Laws.{scanRows}
-use Rattle.recon.specs.Recon.{lumaOnto, chromaOnto}
+use Rattle.recon.specs.Recon.{chromaOnto}
 use Rattle.recon.specs.Laws.{cells-room, luma-sized, chroma-sized, taken, luma-made, chroma-made}
 use Rattle.flatrecon.specs.Cells.{sides, cells-few}
 use borrow.Author.Needs.{needs}

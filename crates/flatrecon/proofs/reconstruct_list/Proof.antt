@@ -1,5 +1,5 @@
 -- `flatrecon::reconstruct_list`: refusals 1 to 3, then 7, then the block on its planes.
-use mathlib.Core.Path.{_≡_, sym, _∙_}
+use mathlib.Core.Path.{sym, _∙_}
 use lib.ListN.{length}
 use Rattle.source.specs.Laws.{some}
 use Rattle.flat.specs.Flat.{blockOf}

@@ -1,5 +1,5 @@
 -- `flatrecon::stretch`: entries where none escapes, else cell by cell.
-use mathlib.Core.Path.{_≡_, sym, _∙_}
+use mathlib.Core.Path.{sym, _∙_}
 use native.Mathlib.Omega.{arith}
 use Rattle.flatrecon.specs.Cells.{quiet-indexed, quiet-painted}
 use borrow.Author.Needs.{needs}

@@ -1,6 +1,6 @@
 -- `flatrecon::values`. The loop's invariant: what the cells of the stretches passed decode to is laid.
 use mathlib.Core.Path.{_≡_, refl, ap, sym, _∙_}
-use Prim.Native.Nat.{ℕ, _+_, _*_, _-_, _≤_, min}
+use Prim.Native.Nat.{_+_, _*_, _-_, _≤_, min}
 use native.Mathlib.Omega.{arith}
 use lib.ListN.{length}
 use Rattle.base.specs.Cells.{laid, laid-none, laid-length, laid-row, laid-done}
