@@ -46,7 +46,7 @@ fn part(comp: u8, c: u64) -> u16
 // The scan place of the cell for column x, row y of the block's luma.
 fn cell_at(transpose: bool, size: usize, x: usize, y: usize) -> usize
     requires { ⌜ (size ≤ 32) × (x < size) × (y < size) ⌝ }
-    ensures { λ r. ⌜ (r ≡ cellOf transpose size x y) × (r < 1024) ⌝ }
+    ensures { λ r. ⌜ (r ≡ cellOf transpose size x y) × (r < size * size) ⌝ }
 {
     if transpose {
         return scan::scan_pos_inv(y, x, size);
@@ -59,14 +59,14 @@ fn put_row(
     plane: &mut [u16],
     at: usize,
     count: usize,
-    values: &[u64; 1024],
+    values: &[u64],
     transpose: bool,
     size: usize,
     y: usize,
     across: usize,
     comp: u8,
 )
-    requires { ⌜ (at + count ≤ length (now plane)) × (size ≤ 32) × (y < size) × (count * across ≤ size) × (1 ≤ across) ⌝ }
+    requires { ⌜ (at + count ≤ length (now plane)) × (size ≤ 32) × (y < size) × (count * across ≤ size) × (1 ≤ across) × (size * size ≤ length (now values)) ⌝ }
     ensures { λ _. ⌜ now (plane .exit) ≡ laid (stretch comp (now (values .entry)) transpose size y across at) (now (plane .entry)) at count ⌝ }
 {
     let mut x: usize = 0;
@@ -116,8 +116,8 @@ fn luma_row(y: usize, down: usize, high: usize, size: usize) -> usize
 }
 
 // The first n rows.
-fn put_rows(plane: &mut [u16], values: &[u64; 1024], o: Onto, count: usize, n: usize)
-    requires { ⌜ Apt o (length (now plane)) × (count ≡ columns o) × (1 ≤ count) × (n ≡ rows o) ⌝ }
+fn put_rows(plane: &mut [u16], values: &[u64], o: Onto, count: usize, n: usize)
+    requires { ⌜ Apt o (length (now plane)) × (count ≡ columns o) × (1 ≤ count) × (n ≡ rows o) × (o .size * o .size ≤ length (now values)) ⌝ }
     ensures { λ _. ⌜ now (plane .exit) ≡ rowsPut o (fromCells o (now (values .entry))) (now (plane .entry)) n ⌝ }
 {
     let mut y: usize = 0;
@@ -173,8 +173,8 @@ pub fn scan_rows(o: Onto) -> usize
 }
 
 // The block onto one plane; its cells' colours stand in scan order.
-pub fn put_plane(plane: &mut [u16], values: &[u64; 1024], o: Onto)
-    requires { ⌜ Apt o (length (now plane)) ⌝ }
+pub fn put_plane(plane: &mut [u16], values: &[u64], o: Onto)
+    requires { ⌜ Apt o (length (now plane)) × (o .size * o .size ≤ length (now values)) ⌝ }
     ensures { λ _. ⌜ now (plane .exit) ≡ after o (fromCells o (now (values .entry))) (now (plane .entry)) ⌝ }
 {
     let count = columns_in(o);

@@ -52,7 +52,7 @@ fn store_two(list: &mut [u8], at: usize, w: u64)
     ensures { λ _. ⌜ now (list .exit) ≡ sets (now (list .entry)) at (bytes 2 w) ⌝ }
 {
     list[at] = (w % 256) as u8;
-    list[at + 1] = ((w >> 8) % 256) as u8;
+    list[at + 1] = (w / 256 % 256) as u8;
 }
 
 // The n low bytes of a word, the lowest first, where the list has room for them: the first ones and the last ones, which may be some of the same.
@@ -143,10 +143,10 @@ fn bits_for(k: u32, short: u32, v: u32) -> u32
     requires { ⌜ k ≤ 31 ⌝ }
     ensures { λ r. ⌜ (r ≡ pick (ltb v short) k (k + 1)) × (r ≤ k + 1) ⌝ }
 {
-    if v < short {
-        return k;
+    if short <= v {
+        return k + 1;
     }
-    k + 1
+    k
 }
 
 // Truncated binary over n values.

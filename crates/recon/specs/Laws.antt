@@ -9,7 +9,7 @@ use lib.Dec.{eqb}
 use lib.ListN.{getD, length}
 use borrow.Author.Tests.{ne-eqb, eqb-true, eqb-false, not-true}
 use Rattle.base.specs.Pick.{pick, either}
-use Rattle.base.specs.Cells.{laid, laid-same}
+use Rattle.base.specs.Cells.{laid, laid-length, laid-same}
 use Rattle.base.specs.Refusals.{refused-early, refused-late}
 use Rattle.base.specs.Tests.{every, any, both, refusal, upTo, up-to-at}
 use Rattle.model.specs.Domain.{subW, subH}
@@ -101,6 +101,10 @@ taken ys cs c g cu y b r d e =
     }
 
 -- ---- the planes from the colours of the cells that lie in them
+
+-- a list that had room for a block's cells has it with some of them laid
+pub cells-room : (f : ℕ → ℕ) (l out : List ℕ) (m size : ℕ) → out ≡ laid f l 0 m → size * size ≤ length l → size * size ≤ length out
+cells-room f l out m size e h = rw (e, laid-length f l 0 m) h
 
 module _ (stride : ℕ) (c : PaletteConfig) (g : SourceBlock) (cu : PaletteCu) (o : Onto) (l values plane out : List ℕ) (m n : ℕ) where
   pub luma-made : o ≡ lumaOnto stride g (cu .size) (cu .transpose) → Apt (lumaOnto stride g (cu .size) (cu .transpose)) m → scanRows o ≤ n → n * cu .size ≤ length l → values ≡ laid (cellColor c cu) l 0 (n * cu .size)

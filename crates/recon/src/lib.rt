@@ -1,7 +1,7 @@
 // The reconstruction of a block onto lent planes.
 ghost use mathlib.Core.Path.{_≡_};
 ghost use mathlib.Core.Bool.{true, not};
-ghost use Prim.Native.Nat.{_/_, _≤_, max};
+ghost use Prim.Native.Nat.{_*_, _/_, _≤_, max};
 ghost use lib.Dec.{eqb};
 ghost use lib.ListN.{length, getD};
 ghost use Rattle.base.specs.Pick.{pick};
@@ -41,7 +41,7 @@ fn greater(a: usize, b: usize) -> usize
 }
 
 // The block on the luma plane.
-fn luma_onto(stride: usize, g: SourceBlock, size: usize, transpose: bool) -> Onto
+pub fn luma_onto(stride: usize, g: SourceBlock, size: usize, transpose: bool) -> Onto
     ensures { λ r. ⌜ r ≡ lumaOnto stride g size transpose ⌝ }
 {
     Onto {
@@ -60,7 +60,7 @@ fn luma_onto(stride: usize, g: SourceBlock, size: usize, transpose: bool) -> Ont
 }
 
 // The block on a chroma plane.
-fn chroma_onto(
+pub fn chroma_onto(
     stride: usize,
     format: u8,
     g: SourceBlock,
@@ -92,7 +92,7 @@ fn chroma_onto(
 }
 
 // Rows of the scan with all cells whose samples lie in the planes in use.
-fn block_rows(format: u8, l: Onto, b: Onto) -> usize
+pub fn block_rows(format: u8, l: Onto, b: Onto) -> usize
     requires { ⌜ Sized l × Sized b × (b .size ≡ l .size) ⌝ }
     ensures { λ r. ⌜ (scanRows l ≤ r) × (1 ≤ format → scanRows b ≤ r) × (r ≤ l .size) ⌝ }
 {
@@ -167,8 +167,8 @@ fn cell_colors(c: PaletteConfig, cu: PaletteCu, m: usize, out: &mut [u64; 1024])
 }
 
 // The block onto the chroma planes, where there are any.
-fn put_chroma(format: u8, cb: &mut [u16], cr: &mut [u16], values: &[u64; 1024], b: Onto, r: Onto)
-    requires { ⌜ (1 ≤ format → Apt b (length (now cb))) × (1 ≤ format → Apt r (length (now cr))) ⌝ }
+pub fn put_chroma(format: u8, cb: &mut [u16], cr: &mut [u16], values: &[u64], b: Onto, r: Onto)
+    requires { ⌜ (1 ≤ format → Apt b (length (now cb))) × (1 ≤ format → Apt r (length (now cr))) × (b .size * b .size ≤ length (now values)) × (r .size * r .size ≤ length (now values)) ⌝ }
     ensures { λ _. ⌜ (now (cb .exit) ≡ pick (eqb format 0) (now (cb .entry)) (after b (fromCells b (now (values .entry))) (now (cb .entry))))
         × (now (cr .exit) ≡ pick (eqb format 0) (now (cr .entry)) (after r (fromCells r (now (values .entry))) (now (cr .entry)))) ⌝ }
 {

@@ -1,8 +1,5 @@
 -- `onto::cell_at`: exchanged where transposed.
 use mathlib.Core.Path.{_≡_}
-use Prim.Native.Nat.{_*_, _≤_}
-use native.Mathlib.Nat.{mul-le-mul}
-use native.Mathlib.Omega.{arith}
 use Rattle.h265.specs.ScanLaws.{scan-lt}
 use Rattle.onto.specs.Onto.{cellOf}
 use borrow.Author.Needs.{needs}
@@ -19,8 +16,7 @@ returns : tie.Need-returns
 unfolding cellOf
 returns c =
     let s = c .before .before .args in
-    let q : s .size * s .size ≤ 32 * 32 = mul-le-mul (c .before .before .pre .0) (c .before .before .pre .0) in
-    (rw (c .before .if1 .taken) (c .scan-pos-inv .ensures), omega (arith, c .scan-pos-inv .ensures, scan-lt (s .size) (s .y) (s .x) (c .before .before .pre .2) (c .before .before .pre .1)))
+    (rw (c .before .if1 .taken) (c .scan-pos-inv .ensures), rw (c .scan-pos-inv .ensures) (scan-lt (s .size) (s .y) (s .x) (c .before .before .pre .2) (c .before .before .pre .1)))
 
 scan-pos-inv-requires-2 : tie.Need-scan-pos-inv-requires-2
 scan-pos-inv-requires-2 c κs = search needs
@@ -29,8 +25,7 @@ returns-2 : tie.Need-returns-2
 unfolding cellOf
 returns-2 c =
     let s = c .before .before .args in
-    let q : s .size * s .size ≤ 32 * 32 = mul-le-mul (c .before .before .pre .0) (c .before .before .pre .0) in
-    (rw (c .before .if1 .left) (c .scan-pos-inv2 .ensures), omega (arith, c .scan-pos-inv2 .ensures, scan-lt (s .size) (s .x) (s .y) (c .before .before .pre .1) (c .before .before .pre .2)))
+    (rw (c .before .if1 .left) (c .scan-pos-inv2 .ensures), rw (c .scan-pos-inv2 .ensures) (scan-lt (s .size) (s .x) (s .y) (c .before .before .pre .1) (c .before .before .pre .2)))
 
 pub cell-at-spec : {M : Type 1} → statement M
 cell-at-spec = tie.close (tie.spec scan-pos-inv-requires returns scan-pos-inv-requires-2 returns-2)

@@ -1,7 +1,7 @@
 -- `onto::put_row`. The loop's invariant: the samples passed are laid, and x is the luma column of the next one.
 use mathlib.Core.Path.{_≡_, refl, sym, _∙_}
 use Prim.Native.Nat.{_+_, _-_, _*_, _≤_, _<_}
-use native.Mathlib.Nat.{suc-mul}
+use native.Mathlib.Nat.{suc-mul, mul-le-mul}
 use native.Mathlib.Numerals.{add-one}
 use native.Mathlib.Omega.{arith}
 use lib.ListN.{length, length-set}
@@ -27,15 +27,17 @@ loop-holds c = (omega arith, omega arith, refl, sym (laid-none _ _ _))
 cell-at-requires : tie.Need-cell-at-requires Inv-loop μ-loop
 cell-at-requires c κs =
     let l = c .before .loop in
-    let s = c .before .before .before .args in
+    let s = c .before .before .before .before .args in
     let h : l .k < s .count = omega arith in
-    (c .before .before .before .pre .1, omega (arith, row-fits (l .k) (s .across) (s .count) h, l .inv .1, c .before .before .before .pre .3, c .before .before .before .pre .4), c .before .before .before .pre .2)
+    (c .before .before .before .before .pre .1, omega (arith, row-fits (l .k) (s .across) (s .count) h, l .inv .1, c .before .before .before .before .pre .3, c .before .before .before .before .pre .4), c .before .before .before .before .pre .2)
 
 mul-part : tie.Need-mul-part Inv-loop μ-loop
-mul-part c = omega (arith, c .cell-at .ensures .1)
+mul-part c =
+    let q : c .before .before .before .before .before .args .size * c .before .before .before .before .before .args .size ≤ 32 * 32 = mul-le-mul (c .before .before .before .before .before .pre .1) (c .before .before .before .before .before .pre .1) in
+    omega (arith, q, c .cell-at .ensures .1)
 
-element-copy-out-part : tie.Need-element-copy-out-part Inv-loop μ-loop
-element-copy-out-part c = omega (arith, c .cell-at .ensures .1)
+shared-slice-read-part : tie.Need-shared-slice-read-part Inv-loop μ-loop
+shared-slice-read-part c = omega (arith, c .before .cell-at .ensures .1, c .before .before .before .before .before .before .pre .5)
 
 part-requires : tie.Need-part-requires Inv-loop μ-loop
 part-requires c κs = search needs
@@ -52,9 +54,9 @@ slice-write-plane c = search needs
 add-x : tie.Need-add-x Inv-loop μ-loop
 add-x c =
     let l = c .before .before .before .before .loop in
-    let s = c .before .before .before .before .before .before .args in
+    let s = c .before .before .before .before .before .before .before .args in
     let h : l .k < s .count = omega arith in
-    omega (arith, row-fits (l .k) (s .across) (s .count) h, l .inv .1, c .before .before .before .before .before .before .pre .1, c .before .before .before .before .before .before .pre .3)
+    omega (arith, row-fits (l .k) (s .across) (s .count) h, l .inv .1, c .before .before .before .before .before .before .before .pre .1, c .before .before .before .before .before .before .before .pre .3)
 
 add-k : tie.Need-add-k Inv-loop μ-loop
 add-k c = search needs
@@ -65,7 +67,7 @@ loop-less c = search needs
 loop-again : tie.Need-loop-again Inv-loop μ-loop
 loop-again c =
     let l = c .before .before .before .before .loop in
-    let s = c .before .before .before .before .before .before .args in (
+    let s = c .before .before .before .before .before .before .before .args in (
       omega arith,
       rw (add-one (l .k), suc-mul (l .k) (s .across)) (omega (arith, l .inv .1)),
       length-set (l .plane) (s .at + l .k) (c .part .result) ∙ l .inv .2,
@@ -88,7 +90,7 @@ put-row-spec =
     loop-holds
     cell-at-requires
     mul-part
-    element-copy-out-part
+    shared-slice-read-part
     part-requires
     add-plane
     mul-plane

@@ -29,28 +29,28 @@ add-start-at c = search needs
 start-at-requires : tie.Need-start-at-requires Inv-loop μ-loop
 start-at-requires c κs =
     let l = c .before .before .loop in
-    let s = c .before .before .before .before .args in
+    let s = c .before .before .before .before .before .args in
     let o = s .o in
-    let q : o .oy + l .y < o .height = omega (arith, c .before .before .before .before .pre .3) in
-    let t : o .ox + s .count ≤ o .stride = omega (arith, c .before .before .before .before .pre .1, c .before .before .before .before .pre .2) in
-    let m : o .stride * o .height ≤ length (l .plane) = rw (l .inv .1) (c .before .before .before .before .pre .0 .holds) in
+    let q : o .oy + l .y < o .height = omega (arith, c .before .before .before .before .before .pre .3) in
+    let t : o .ox + s .count ≤ o .stride = omega (arith, c .before .before .before .before .before .pre .1, c .before .before .before .before .before .pre .2) in
+    let m : o .stride * o .height ≤ length (l .plane) = rw (l .inv .1) (c .before .before .before .before .before .pre .0 .holds) in
     (q, m, t)
 
 luma-row-requires : tie.Need-luma-row-requires Inv-loop μ-loop
 luma-row-requires c κs =
     let l = c .before .before .before .loop in
-    let o = c .before .before .before .before .before .args .o in
-    let q : l .y < o .high = omega (arith, c .before .before .before .before .before .pre .3) in
-    (q, c .before .before .before .before .before .pre .0 .down-fits, c .before .before .before .before .before .pre .0 .small, c .before .before .before .before .before .pre .0 .down-one)
+    let o = c .before .before .before .before .before .before .args .o in
+    let q : l .y < o .high = omega (arith, c .before .before .before .before .before .before .pre .3) in
+    (q, c .before .before .before .before .before .before .pre .0 .down-fits, c .before .before .before .before .before .before .pre .0 .small, c .before .before .before .before .before .before .pre .0 .down-one)
 
 put-row-requires : tie.Need-put-row-requires Inv-loop μ-loop
 put-row-requires c κs =
-    let s = c .before .before .before .before .before .before .before .args in
+    let s = c .before .before .before .before .before .before .before .before .args in
     let o = s .o in
-    let k : s .count ≤ o .wide = omega (arith, c .before .before .before .before .before .before .before .pre .1) in
+    let k : s .count ≤ o .wide = omega (arith, c .before .before .before .before .before .before .before .before .pre .1) in
     let q : o .across ≤ o .across = omega arith in
     let p : s .count * o .across ≤ o .wide * o .across = mul-le-mul k q in
-    (c .before .before .start-at .ensures .1, c .before .before .before .before .before .before .before .pre .0 .small, c .before .luma-row .ensures .1, omega (arith, p, c .before .before .before .before .before .before .before .pre .0 .across-fits), c .before .before .before .before .before .before .before .pre .0 .across-one)
+    (c .before .before .start-at .ensures .1, c .before .before .before .before .before .before .before .before .pre .0 .small, c .before .luma-row .ensures .1, omega (arith, p, c .before .before .before .before .before .before .before .before .pre .0 .across-fits), c .before .before .before .before .before .before .before .before .pre .0 .across-one, c .before .before .before .before .before .before .before .before .pre .4)
 
 add-y : tie.Need-add-y Inv-loop μ-loop
 add-y c = search needs
@@ -61,12 +61,12 @@ loop-less c = search needs
 loop-again : tie.Need-loop-again Inv-loop μ-loop
 loop-again c =
     let l = c .before .before .before .before .before .before .before .before .loop in
-    let s = c .before .before .before .before .before .before .before .before .before .before .args in
+    let s = c .before .before .before .before .before .before .before .before .before .before .before .args in
     let o = s .o in
     let w = c .before .before .put-row in
     let f = fromCells o (s .values .now) in
     let e : w .last .0 ≡ rowsPut o f (s .plane .now) (l .y + 1) =
-    put-turn o (s .values .now) (s .plane .now) (l .plane) (w .last .0) (l .y) (c .before .before .before .before .before .start-at .result) (c .before .before .before .before .luma-row .result) (s .count) (l .inv .2) (c .before .before .before .before .before .start-at .ensures .0) (c .before .before .before .before .luma-row .ensures .0) (c .before .before .before .before .before .before .before .before .before .before .pre .1) (w .ensures)
+    put-turn o (s .values .now) (s .plane .now) (l .plane) (w .last .0) (l .y) (c .before .before .before .before .before .start-at .result) (c .before .before .before .before .luma-row .result) (s .count) (l .inv .2) (c .before .before .before .before .before .start-at .ensures .0) (c .before .before .before .before .luma-row .ensures .0) (c .before .before .before .before .before .before .before .before .before .before .before .pre .1) (w .ensures)
     in
     (omega arith, ap length e ∙ put-length o f (s .plane .now) (l .y + 1), e)
 
@@ -74,7 +74,7 @@ same-length : tie.Need-same-length Inv-loop μ-loop
 same-length c = search needs
 
 returns : tie.Need-returns Inv-loop μ-loop
-returns c = let e : c .before .loop .y ≡ c .before .before .before .args .n = omega arith in c .before .loop .inv .2 ∙ ap (rowsPut _ _ _) e
+returns c = let e : c .before .loop .y ≡ c .before .before .before .before .args .n = omega arith in c .before .loop .inv .2 ∙ ap (rowsPut _ _ _) e
 
 pub put-rows-spec : {M : Type 1} → statement M
 put-rows-spec =

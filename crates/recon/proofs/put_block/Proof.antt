@@ -1,12 +1,13 @@
 -- `recon::put_block`: the colours of the cells that lie in the planes, then plane by plane.
-use mathlib.Core.Path.{_≡_, refl, sym, _∙_}
+use mathlib.Core.Path.{_≡_, refl, ap, sym, _∙_}
 use Prim.Native.Nat.{ℕ, _*_, _≤_}
 use native.Mathlib.Nat.{mul-le-mul}
 use native.Mathlib.Omega.{arith}
 use lib.ListN.{length, replicate, length-replicate}
+use Rattle.base.specs.Cells.{laid-length}
 use Rattle.onto.specs.Laws.{scanRows}
-use Rattle.recon.specs.Recon.{lumaOnto, chromaOnto}
-use Rattle.recon.specs.Laws.{luma-sized, chroma-sized, taken, luma-made, chroma-made}
+use Rattle.recon.specs.Recon.{cellColor, lumaOnto, chromaOnto}
+use Rattle.recon.specs.Laws.{cells-room, luma-sized, chroma-sized, taken, luma-made, chroma-made}
 use borrow.Author.Needs.{needs}
 use Rattle.recon.proofs.put_block.Statement.{statement}
 use Rattle.recon.proofs.put_block.Tie as tie
@@ -53,16 +54,29 @@ cell-colors-requires c κs =
     let q : c .before .before .block-rows .result * s .cu .size ≤ 32 * 32 = mul-le-mul h (t .small) in
     (c .before .before .before .before .before .before .before .before .before .pre .0 .config, omega (arith, q))
 
+slice-aggregate-put-plane : tie.Need-slice-aggregate-put-plane
+slice-aggregate-put-plane c = omega (arith, ap length (c .before .before .cell-colors .ensures) ∙ laid-length (cellColor (c .before .before .before .before .before .before .before .before .before .before .before .before .args .c) (c .before .before .before .before .before .before .before .before .before .before .before .before .args .cu)) (replicate 1024 0) 0 (c .before .before .before .before .before .block-rows .result * c .before .before .before .before .before .before .before .before .before .before .before .before .args .cu .size) ∙ length-replicate {A = ℕ} 1024 0)
+
 put-plane-requires : tie.Need-put-plane-requires
 put-plane-requires c κs =
     let s = c .before .before .before .before .before .before .before .before .before .before .before .before .args in
-    rw (c .before .before .before .before .before .before .before .before .luma-onto .ensures) (taken (s .ys) (s .cs) (s .c) (s .g) (s .cu) (length (s .luma .now)) (length (s .cb .now)) (length (s .cr .now)) (c .before .before .before .before .before .before .before .before .before .before .before .before .pre .0) (c .before .before .before .before .before .before .before .before .before .before .before .before .pre .1) .luma)
+    let t = taken (s .ys) (s .cs) (s .c) (s .g) (s .cu) (length (s .luma .now)) (length (s .cb .now)) (length (s .cr .now)) (c .before .before .before .before .before .before .before .before .before .before .before .before .pre .0) (c .before .before .before .before .before .before .before .before .before .before .before .before .pre .1) in
+    let q : s .cu .size * s .cu .size ≤ 32 * 32 = mul-le-mul (t .small) (t .small) in
+    let z : s .cu .size * s .cu .size ≤ length (replicate {A = ℕ} 1024 0) = omega (arith, q, length-replicate {A = ℕ} 1024 0) in
+    let w = cells-room _ (replicate 1024 0) _ _ (s .cu .size) (c .before .before .cell-colors .ensures) z in
+    rw (c .before .before .before .before .before .before .before .before .luma-onto .ensures) (t .luma, w)
+
+slice-aggregate-put-chroma : tie.Need-slice-aggregate-put-chroma
+slice-aggregate-put-chroma c = omega (arith, ap length (c .before .before .before .before .before .before .before .before .cell-colors .ensures) ∙ laid-length (cellColor (c .before .before .before .before .before .before .before .before .before .before .before .before .before .before .before .before .before .before .args .c) (c .before .before .before .before .before .before .before .before .before .before .before .before .before .before .before .before .before .before .args .cu)) (replicate 1024 0) 0 (c .before .before .before .before .before .before .before .before .before .before .before .block-rows .result * c .before .before .before .before .before .before .before .before .before .before .before .before .before .before .before .before .before .before .args .cu .size) ∙ length-replicate {A = ℕ} 1024 0)
 
 put-chroma-requires : tie.Need-put-chroma-requires
 put-chroma-requires c κs =
     let s = c .before .before .before .before .before .before .before .before .before .before .before .before .before .before .before .before .before .before .args in
     let t = taken (s .ys) (s .cs) (s .c) (s .g) (s .cu) (length (s .luma .now)) (length (s .cb .now)) (length (s .cr .now)) (c .before .before .before .before .before .before .before .before .before .before .before .before .before .before .before .before .before .before .pre .0) (c .before .before .before .before .before .before .before .before .before .before .before .before .before .before .before .before .before .before .pre .1) in
-    rw (c .before .before .before .before .before .before .before .before .before .before .before .before .before .chroma-onto .ensures, c .before .before .before .before .before .before .before .before .before .before .before .before .chroma-onto2 .ensures) (t .cb, t .cr)
+    let q : s .cu .size * s .cu .size ≤ 32 * 32 = mul-le-mul (t .small) (t .small) in
+    let z : s .cu .size * s .cu .size ≤ length (replicate {A = ℕ} 1024 0) = omega (arith, q, length-replicate {A = ℕ} 1024 0) in
+    let w = cells-room _ (replicate 1024 0) _ _ (s .cu .size) (c .before .before .before .before .before .before .before .before .cell-colors .ensures) z in
+    rw (c .before .before .before .before .before .before .before .before .before .before .before .before .before .chroma-onto .ensures, c .before .before .before .before .before .before .before .before .before .before .before .before .chroma-onto2 .ensures) (t .cb, t .cr, w, w)
 
 same-length : tie.Need-same-length
 same-length c = search needs
@@ -98,7 +112,9 @@ put-block-spec =
     block-rows-requires
     mul-cell-colors
     cell-colors-requires
+    slice-aggregate-put-plane
     put-plane-requires
+    slice-aggregate-put-chroma
     put-chroma-requires
     same-length
     same-length-2

@@ -12,10 +12,10 @@ returns : tie.Need-returns
 returns c = (rw (eq-eqb _ _ (c .if1 .taken)), rw (eq-eqb _ _ (c .if1 .taken)))
 
 put-plane-requires : tie.Need-put-plane-requires
-put-plane-requires c κs = c .before .before .before .before .pre .0 (omega arith)
+put-plane-requires c κs = (c .before .before .before .before .before .pre .0 (omega arith), c .before .before .before .before .before .pre .2)
 
 put-plane-requires-2 : tie.Need-put-plane-requires-2
-put-plane-requires-2 c κs = c .before .before .before .before .before .before .before .before .pre .1 (omega arith)
+put-plane-requires-2 c κs = (c .before .before .before .before .before .before .before .before .before .pre .1 (omega arith), c .before .before .before .before .before .before .before .before .before .pre .3)
 
 same-length : tie.Need-same-length
 same-length c = search needs
