@@ -1,14 +1,14 @@
 -- Bins as the bytes of a word, the first lowest: stored in two parts that may overlap, and at most seven bits spread to bytes by one product.
-use mathlib.Core.Path.{_≡_, refl, ap, sym, _∙_}
+use mathlib.Core.Path.{_≡_, refl, ap, ap₂, sym, _∙_}
 use mathlib.Core.Bool.{true≢false, Bool, true, false}
 use mathlib.Core.List.{List, [], _∷_, _++_}
 use Prim.Native.Nat.{ℕ, zero, suc, _+_, _-_, _*_, _/_, _%_, _^_, _≤_, _<_}
 use native.Mathlib.Nat.{zero-add, suc-add}
 use native.Mathlib.Omega.{arith}
-use lib.Bits.{bitAnd}
+use lib.Bits.{bitAnd, and-le-r}
 use lib.Dec.{eqb, ltb}
 use lib.ListN.{length, set, take}
-use lib.Pow.{shr-shr, shl-shr, shl-exact}
+use lib.Pow.{pow-add, shr-shr, shl-shr, shl-exact}
 use lib.Seq.{sets, set-set, set-comm, take-at}
 use borrow.Author.Tests.{eqb-true}
 use Rattle.base.specs.Laid.{Laid, sets-append}
@@ -16,7 +16,7 @@ use Rattle.base.specs.Pick.{pick, either}
 use Rattle.base.specs.Tests.{both, upTo, up-to-at}
 use Rattle.h265.specs.Strings.{bits, flog, short, tb}
 use Rattle.h265.specs.StringLaws.{length-bits, bits-mod}
-use Rattle.put.specs.Straight.{bits-append}
+use Rattle.put.specs.Straight.{bits-append, bits-last}
 
 -- the n low bytes of a word, the lowest first
 unfoldable pub bytes : ℕ → ℕ → List ℕ
@@ -91,6 +91,10 @@ same-list (x ∷ xs) (y ∷ ys) e =
 unfoldable pub spread : ℕ → ℕ
 spread x = bitAnd (x * 18049651735527937 / 64) 282578800148737
 
+pub spread-most : (x : ℕ) → spread x < 2 ^ 56
+unfolding spread
+spread-most x = omega (arith, and-le-r (x * 18049651735527937 / 64) 282578800148737)
+
 spread-all : upTo 128 (λ x. sameList (bytes 7 (spread x)) (bits 7 x)) ≡ true
 unfolding spread bytes bits sameList upTo
 spread-all = refl
@@ -112,6 +116,32 @@ spread-bits n v h l =
     sym (take-at (bytes n (spread x)) (bytes b (spread x / 2 ^ (8 * n))) n (length-bytes n (spread x)))
     ∙ ap (take n) (sym f ∙ s ∙ g)
     ∙ take-at (bits n v) (bits b y) n (length-bits n v)
+
+-- what stands past the n low bytes does not matter to them
+bytes-low : (n w b : ℕ) → bytes n (w + b * 2 ^ (8 * n)) ≡ bytes n w
+unfolding bytes
+bytes-low zero w b = refl
+bytes-low (suc n) w b =
+    let e : 8 * suc n ≡ 8 + 8 * n = omega arith in
+    let p : b * 2 ^ (8 + 8 * n) ≡ b * 2 ^ (8 * n) * 256 = ap (λ (x : ℕ). b * x) (pow-add 2 8 (8 * n)) ∙ omega arith in
+    let q : (w + b * 2 ^ (8 * n) * 256) % 256 ≡ w % 256 = omega arith in
+    let r : (w + b * 2 ^ (8 * n) * 256) / 256 ≡ w / 256 + b * 2 ^ (8 * n) = omega arith in
+    rw (e, p, q, r) (ap (λ (t : List ℕ). w % 256 ∷ t) (bytes-low n (w / 256) b))
+
+bytes-one : (w : ℕ) → bytes 1 w ≡ w % 256 ∷ []
+unfolding bytes
+bytes-one w = refl
+
+-- seven bits, then the lowest of eight
+pub spread-last : (v : ℕ) → bytes 8 (spread (v / 2 % 128) + v % 2 * 2 ^ 56) ≡ bits 8 v
+spread-last v =
+    let s = spread (v / 2 % 128) in
+    let w = s + v % 2 * 2 ^ 56 in
+    let l = spread-most (v / 2 % 128) in
+    let h : w / 2 ^ 56 % 256 ≡ v % 2 = omega arith in
+    bytes-append 7 1 w
+    ∙ ap₂ _++_ (bytes-low 7 s (v % 2) ∙ spread-seven (v / 2 % 128) (omega arith) ∙ bits-mod 7 (v / 2)) (bytes-one (w / 2 ^ 56) ∙ ap (λ (x : ℕ). x ∷ []) h)
+    ∙ sym (bits-last 8 v (omega arith))
 
 -- ---- truncated binary as one string of bits
 

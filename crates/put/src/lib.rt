@@ -1,13 +1,14 @@
 // Bins onto a lent list. A bin past the list's end is not stored, and counted all the same: a writer asks no room and answers the place after its last bin.
 ghost use mathlib.Core.List.{[], _∷_};
 ghost use mathlib.Core.Path.{_≡_};
-ghost use Prim.Native.Nat.{_+_, _^_, _≤_, _<_};
+ghost use Prim.Native.Nat.{ℕ, _+_, _^_, _≤_, _<_};
 ghost use lib.ListN.{length};
 ghost use lib.Seq.{sets};
 ghost use lib.Dec.{ltb};
 ghost use Rattle.base.specs.Laid.{Laid};
 ghost use Rattle.base.specs.Pick.{pick};
 ghost use Rattle.h265.specs.Strings.{bits, tb};
+ghost use Rattle.h265.specs.Strings as S;
 ghost use Rattle.put.specs.Words.{bytes, spread};
 use bins::flog;
 use bins::pow2;
@@ -22,17 +23,6 @@ pub fn put_bin(list: &mut [u8], at: usize, byte: u8) -> usize
         return at + 1;
     }
     at + 1
-}
-
-// Four bits where the list has room for them.
-fn lay_four(list: &mut [u8], at: usize, value: u32)
-    requires { ⌜ at + 4 ≤ length (now list) ⌝ }
-    ensures { λ _. ⌜ now (list .exit) ≡ sets (now (list .entry)) at (bits 4 value) ⌝ }
-{
-    list[at] = ((value >> 3) % 2) as u8;
-    list[at + 1] = ((value >> 2) % 2) as u8;
-    list[at + 2] = ((value >> 1) % 2) as u8;
-    list[at + 3] = (value % 2) as u8;
 }
 
 // The four low bytes of a word, the lowest first, where the list has room for them.
@@ -95,20 +85,21 @@ fn spread_bits(value: u32, n: u32) -> u64
     spread_seven(((value as u64) << (7 - n) as u64) % 128)
 }
 
-// The n low bits, each stored where the list has room for it: the lowest after the others, eight with room straight.
+// Eight bits likewise.
+fn spread_eight(value: u32) -> u64
+    ensures { λ r. ⌜ bytes 8 r ≡ bits 8 value ⌝ }
+{
+    let high = spread_seven(((value / 2) % 128) as u64);
+    high + ((value % 2) as u64) * 72057594037927936
+}
+
+// The n low bits, each stored where the list has room for it: the lowest after the others.
 fn put_long(list: &mut [u8], at: usize, value: u32, n: u32) -> usize
     requires { ⌜ (n ≤ 32) × (at + 32 < 2 ^ 63) ⌝ }
     ensures { λ r. ⌜ Laid (now (list .entry)) at (bits n value) r (now (list .exit)) ⌝ }
 {
     if n == 0 {
         return at;
-    }
-    if n == 8 {
-        if at + 8 <= list.len() {
-            lay_four(list, at, value >> 4);
-            lay_four(list, at + 4, value);
-            return at + 8;
-        }
     }
     let to = put_long(list, at, value >> 1, n - 1);
     put_bin(list, to, (value % 2) as u8)
@@ -122,6 +113,11 @@ pub fn put_bits(list: &mut [u8], at: usize, value: u32, n: u32) -> usize
     if n <= 7 {
         if at + n as usize <= list.len() {
             return lay_word(list, at, spread_bits(value, n), n as usize);
+        }
+    }
+    if n == 8 {
+        if at + 8 <= list.len() {
+            return lay_word(list, at, spread_eight(value), 8);
         }
     }
     put_long(list, at, value, n)
@@ -149,6 +145,22 @@ fn bits_for(k: u32, short: u32, v: u32) -> u32
     k
 }
 
+// Truncated binary over an alphabet whose logarithm is k and which has so many short strings.
+pub fn put_cut(list: &mut [u8], at: usize, k: u32, short: u32, v: u32) -> usize
+    requires { ⌜ (k ≤ 16) × (short ≤ 131072) × (v ≤ 65536) × (at + 32 < 2 ^ 63) ⌝ }
+    ensures { λ r. ⌜ ((n : ℕ) → k ≡ S.flog n → short ≡ S.short n → Laid (now (list .entry)) at (tb n v) r (now (list .exit))) × (r ≤ at + 32) ⌝ }
+{
+    put_bits(list, at, raised(short, v), bits_for(k, short, v))
+}
+
+// The short strings of an alphabet of n values, whose logarithm is k.
+pub fn shorts(n: u32, k: u32) -> u32
+    requires { ⌜ (1 ≤ n) × (n ≤ 65536) × (k ≡ S.flog n) ⌝ }
+    ensures { λ r. ⌜ (r ≡ S.short n) × (r ≤ 131072) × (k ≤ 16) ⌝ }
+{
+    pow2(k + 1) - n
+}
+
 // Truncated binary over n values.
 pub fn put_tb(list: &mut [u8], at: usize, n: u32, v: u32) -> usize
     requires { ⌜ (1 ≤ n) × (n ≤ 65536) × (v < n) × (at + 32 < 2 ^ 63) ⌝ }
@@ -156,6 +168,6 @@ pub fn put_tb(list: &mut [u8], at: usize, n: u32, v: u32) -> usize
     ensures near { λ r. ⌜ r ≤ at + 32 ⌝ }
 {
     let k = flog(n);
-    let short = pow2(k + 1) - n;
-    put_bits(list, at, raised(short, v), bits_for(k, short, v))
+    let short = shorts(n, k);
+    put_cut(list, at, k, short, v)
 }

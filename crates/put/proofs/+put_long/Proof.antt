@@ -1,18 +1,16 @@
--- `put::put_long`: eight straight, or the lowest bit after the others.
-use mathlib.Core.Path.{ap, sym, _∙_}
+-- `put::put_long`: the lowest bit after the others.
 use native.Mathlib.Omega.{arith}
 use borrow.Author.Needs.{needs}
 use Rattle.base.specs.Laid.{laid-none, laid-then}
 use Rattle.h265.specs.Strings.{bits}
 use Rattle.h265.specs.StringLaws.{length-bits}
-use Rattle.put.specs.Straight.{bits-last, left-bits}
-use Prim.Native.Nat.{ℕ, _+_, _<_}
+use Rattle.put.specs.Straight.{bits-last}
+use Prim.Native.Nat.{ℕ, _<_}
 use borrow.Fn.Kinds.{In}
 use borrow.Fn.PlainCycle.{Measures, is, falls, and}
 use Rattle.put.proofs.put_long.Reads as put-long
 use Rattle.put.proofs.put_long.Kinds as put-long-kinds
 use Rattle.put.proofs.+put_long.Lts-put_long as put-long-lts
-use Rattle.put.proofs.lay_four.Reads as lay-four-reads
 use Rattle.put.proofs.put_bin.Reads as put-bin-reads
 use Rattle.put.proofs.+put_long.{statement}
 use Rattle.put.proofs.+put_long.Tie.{close}
@@ -28,8 +26,6 @@ put-long-below t =
     and 1 put-long-kinds.ps (falls 1 put-long-kinds.ps _<_ μ-put-long t) put-long.Pre
 
 put-long-returns : (t : ℕ) → put-long-lts.Need-returns (
-  lay-four-reads.Asked,
-  lay-four-reads.Learnt,
   put-long-below t,
   put-long.Post,
   put-bin-reads.Asked,
@@ -38,79 +34,7 @@ put-long-returns : (t : ℕ) → put-long-lts.Need-returns (
 unfolding bits
 put-long-returns t c = rw (c .if1 .taken) (laid-none _ _)
 
-put-long-add-if3 : (t : ℕ) → put-long-lts.Need-add-if3 (
-  lay-four-reads.Asked,
-  lay-four-reads.Learnt,
-  put-long-below t,
-  put-long.Post,
-  put-bin-reads.Asked,
-  put-bin-reads.Learnt,
-) (put-long-at t) put-long.Post
-put-long-add-if3 t c = search needs
-
-put-long-lay-four-requires : (t : ℕ) → put-long-lts.Need-lay-four-requires (
-  lay-four-reads.Asked,
-  lay-four-reads.Learnt,
-  put-long-below t,
-  put-long.Post,
-  put-bin-reads.Asked,
-  put-bin-reads.Learnt,
-) (put-long-at t) put-long.Post
-put-long-lay-four-requires t c κs = search needs
-
-put-long-add-lay-four : (t : ℕ) → put-long-lts.Need-add-lay-four (
-  lay-four-reads.Asked,
-  lay-four-reads.Learnt,
-  put-long-below t,
-  put-long.Post,
-  put-bin-reads.Asked,
-  put-bin-reads.Learnt,
-) (put-long-at t) put-long.Post
-put-long-add-lay-four t c = search needs
-
-put-long-lay-four-requires-2 : (t : ℕ) → put-long-lts.Need-lay-four-requires-2 (
-  lay-four-reads.Asked,
-  lay-four-reads.Learnt,
-  put-long-below t,
-  put-long.Post,
-  put-bin-reads.Asked,
-  put-bin-reads.Learnt,
-) (put-long-at t) put-long.Post
-put-long-lay-four-requires-2 t c κs = search needs
-
-put-long-add-result : (t : ℕ) → put-long-lts.Need-add-result (
-  lay-four-reads.Asked,
-  lay-four-reads.Learnt,
-  put-long-below t,
-  put-long.Post,
-  put-bin-reads.Asked,
-  put-bin-reads.Learnt,
-) (put-long-at t) put-long.Post
-put-long-add-result t c = search needs
-
-put-long-same-length : (t : ℕ) → put-long-lts.Need-same-length (
-  lay-four-reads.Asked,
-  lay-four-reads.Learnt,
-  put-long-below t,
-  put-long.Post,
-  put-bin-reads.Asked,
-  put-bin-reads.Learnt,
-) (put-long-at t) put-long.Post
-put-long-same-length t c = search needs
-
-put-long-returns-2 : (t : ℕ) → put-long-lts.Need-returns-2 (
-  lay-four-reads.Asked,
-  lay-four-reads.Learnt,
-  put-long-below t,
-  put-long.Post,
-  put-bin-reads.Asked,
-  put-bin-reads.Learnt,
-) (put-long-at t) put-long.Post
-put-long-returns-2 t c = rw (c .before .before .before .before .before .before .before .before .before .if2 .taken) (record { next = ap (λ (x : ℕ). c .before .before .before .before .before .before .before .before .before .before .before .before .args .at + x) (sym (length-bits 8 (c .before .before .before .before .before .before .before .before .before .before .before .before .args .value))); after = c .before .before .lay-four2 .ensures ∙ left-bits 4 4 (c .before .before .before .before .before .before .before .before .before .before .before .before .args .value) (c .before .before .before .before .before .before .before .before .before .before .before .before .args .list .now) (c .before .before .before .before .before .before .before .before .before .before .before .before .args .at) (c .before .before .before .before .before .before .lay-four .ensures) .after })
-
 put-long-sub-put-long : (t : ℕ) → put-long-lts.Need-sub-put-long (
-  lay-four-reads.Asked,
-  lay-four-reads.Learnt,
   put-long-below t,
   put-long.Post,
   put-bin-reads.Asked,
@@ -119,18 +43,14 @@ put-long-sub-put-long : (t : ℕ) → put-long-lts.Need-sub-put-long (
 put-long-sub-put-long t c = search needs
 
 put-long-put-long-requires : (t : ℕ) → put-long-lts.Need-put-long-requires (
-  lay-four-reads.Asked,
-  lay-four-reads.Learnt,
   put-long-below t,
   put-long.Post,
   put-bin-reads.Asked,
   put-bin-reads.Learnt,
 ) (put-long-at t) put-long.Post
-put-long-put-long-requires t c κs = (omega (arith, c .before .before .before .before .pre .0, c .before .before .if1 .left), (omega (arith, c .before .before .before .before .pre .1), omega (arith, c .before .before .before .before .pre .1)))
+put-long-put-long-requires t c κs = (omega (arith, c .before .before .before .pre .0, c .before .if1 .left), (omega (arith, c .before .before .before .pre .1), omega (arith, c .before .before .before .pre .1)))
 
 put-long-cast-put-bin : (t : ℕ) → put-long-lts.Need-cast-put-bin (
-  lay-four-reads.Asked,
-  lay-four-reads.Learnt,
   put-long-below t,
   put-long.Post,
   put-bin-reads.Asked,
@@ -139,39 +59,31 @@ put-long-cast-put-bin : (t : ℕ) → put-long-lts.Need-cast-put-bin (
 put-long-cast-put-bin t c = search needs
 
 put-long-put-bin-requires : (t : ℕ) → put-long-lts.Need-put-bin-requires (
-  lay-four-reads.Asked,
-  lay-four-reads.Learnt,
   put-long-below t,
   put-long.Post,
   put-bin-reads.Asked,
   put-bin-reads.Learnt,
 ) (put-long-at t) put-long.Post
-put-long-put-bin-requires t c κs = omega (arith, rw length-bits at (c .before .before .before .put-long .ensures .next), c .before .before .before .before .before .before .before .before .pre .1)
+put-long-put-bin-requires t c κs = omega (arith, rw length-bits at (c .before .before .before .put-long .ensures .next), c .before .before .before .before .before .before .before .pre .1)
 
-put-long-same-length-2 : (t : ℕ) → put-long-lts.Need-same-length-2 (
-  lay-four-reads.Asked,
-  lay-four-reads.Learnt,
+put-long-same-length : (t : ℕ) → put-long-lts.Need-same-length (
   put-long-below t,
   put-long.Post,
   put-bin-reads.Asked,
   put-bin-reads.Learnt,
 ) (put-long-at t) put-long.Post
-put-long-same-length-2 t c = search needs
+put-long-same-length t c = search needs
 
-put-long-returns-3 : (t : ℕ) → put-long-lts.Need-returns-3 (
-  lay-four-reads.Asked,
-  lay-four-reads.Learnt,
+put-long-returns-2 : (t : ℕ) → put-long-lts.Need-returns-2 (
   put-long-below t,
   put-long.Post,
   put-bin-reads.Asked,
   put-bin-reads.Learnt,
 ) (put-long-at t) put-long.Post
-put-long-returns-3 t c = rw (bits-last (c .before .before .before .before .before .before .before .before .before .before .before .args .n) (c .before .before .before .before .before .before .before .before .before .before .before .args .value) (omega (arith, c .before .before .before .before .before .before .before .before .before .if1 .left))) (laid-then (c .before .before .before .before .before .before .put-long .ensures) (c .before .before .put-bin .ensures))
+put-long-returns-2 t c = rw (bits-last (c .before .before .before .before .before .before .before .before .before .before .args .n) (c .before .before .before .before .before .before .before .before .before .before .args .value) (omega (arith, c .before .before .before .before .before .before .before .before .if1 .left))) (laid-then (c .before .before .before .before .before .before .put-long .ensures) (c .before .before .put-bin .ensures))
 
 pub +put-long-spec : {M : Type 1} → statement M
 +put-long-spec = close μ-put-long λ t. put-long-lts.spec (
-  lay-four-reads.Asked,
-  lay-four-reads.Learnt,
   put-long-below t,
   put-long.Post,
   put-bin-reads.Asked,
@@ -180,16 +92,9 @@ pub +put-long-spec : {M : Type 1} → statement M
     (put-long-at t)
     put-long.Post
     (put-long-returns t)
-    (put-long-add-if3 t)
-    (put-long-lay-four-requires t)
-    (put-long-add-lay-four t)
-    (put-long-lay-four-requires-2 t)
-    (put-long-add-result t)
-    (put-long-same-length t)
-    (put-long-returns-2 t)
     (put-long-sub-put-long t)
     (put-long-put-long-requires t)
     (put-long-cast-put-bin t)
     (put-long-put-bin-requires t)
-    (put-long-same-length-2 t)
-    (put-long-returns-3 t)
+    (put-long-same-length t)
+    (put-long-returns-2 t)

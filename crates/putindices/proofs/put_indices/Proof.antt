@@ -19,15 +19,26 @@ use Rattle.putindices.proofs.put_indices.Statement.{statement}
 use Rattle.putindices.proofs.put_indices.Tie as tie
 use Rattle.putindices.proofs.put_indices.Reads as reads
 use Rattle.putindices.proofs.put_indices.Lts as lts
+use Rattle.bins.proofs.flog.Reads as flog-reads
+use Rattle.flatplan.proofs.run_in.Reads as run-in-reads
+use Rattle.put.proofs.shorts.Reads as shorts-reads
+use Rattle.putindices.proofs.put_index.Reads as put-index-reads
+use Rattle.runstate.proofs.used_after.Reads as used-after-reads
 
 abbrev Inv-loop : tie.InvT-loop
-Inv-loop list₀ at m runs count total to₀ k₀ i₀ list to k i = (i ≤ count) × (k ≤ i) × (to ≤ at + 32 * i) × (length list ≡ length list₀) × Each Under (drop k (alphabets m (total - 1))) (sentOf (drop i (firstOf runs count))) × Left list₀ at (eachBins tb (alphabets m (total - 1)) (sentOf (firstOf runs count))) list to (eachBins tb (drop k (alphabets m (total - 1))) (sentOf (drop i (firstOf runs count))))
+Inv-loop list₀ at m runs count total log short to₀ k₀ i₀ list to k i = (i ≤ count) × (k ≤ i) × (to ≤ at + 32 * i) × (length list ≡ length list₀) × Each Under (drop k (alphabets m (total - 1))) (sentOf (drop i (firstOf runs count))) × Left list₀ at (eachBins tb (alphabets m (total - 1)) (sentOf (firstOf runs count))) list to (eachBins tb (drop k (alphabets m (total - 1))) (sentOf (drop i (firstOf runs count))))
 
 abbrev μ-loop : tie.MeasureT-loop
-μ-loop list₀ at m runs count total to₀ k₀ i₀ list to k i = count - i
+μ-loop list₀ at m runs count total log short to₀ k₀ i₀ list to k i = count - i
+
+flog-requires : tie.Need-flog-requires Inv-loop μ-loop
+flog-requires c κs = omega arith
+
+shorts-requires : tie.Need-shorts-requires Inv-loop μ-loop
+shorts-requires c κs = (omega arith, omega arith, c .flog .ensures)
 
 loop-holds : tie.Need-loop-holds Inv-loop μ-loop
-loop-holds c = (omega arith, omega arith, omega arith, refl, c .before .before .pre .6, left-start _ _ _)
+loop-holds c = (omega arith, omega arith, omega arith, refl, c .before .before .before .before .pre .6, left-start _ _ _)
 
 mul-run-in : tie.Need-mul-run-in Inv-loop μ-loop
 mul-run-in c = omega arith
@@ -38,12 +49,12 @@ run-in-requires c κs = omega arith
 put-index-requires : tie.Need-put-index-requires Inv-loop μ-loop
 put-index-requires c κs =
     let b = c .before .before .before .loop in
-    let g = c .before .before .before .before .before .before .args in
+    let g = c .before .before .before .before .before .before .before .before .args in
     let r = c .before .run-in .result in
     let rs = drop (b .i + 1) (firstOf (g .runs .now) (g .count)) in
     let e = first-next (g .runs .now) (g .count) (b .i) (omega arith) (omega arith) ∙ ap (λ (z : Run). z ∷ rs) (sym (c .before .run-in .ensures)) in
     let t = index-turn (g .m) (g .total) (b .k) (drop (b .i) (firstOf (g .runs .now) (g .count))) r rs (omega arith) e (b .inv .4) in
-    (omega arith, omega arith, omega arith, t .small)
+    (omega arith, omega arith, omega (arith, c .before .before .before .before .shorts .ensures .2), omega (arith, c .before .before .before .before .shorts .ensures .1), c .before .before .before .before .before .flog .ensures, c .before .before .before .before .shorts .ensures .0, omega arith, t .small)
 
 used-after-requires : tie.Need-used-after-requires Inv-loop μ-loop
 used-after-requires c κs = omega arith
@@ -57,7 +68,7 @@ loop-less c = omega arith
 loop-again : tie.Need-loop-again Inv-loop μ-loop
 loop-again c =
     let b = c .before .before .before .before .before .before .before .loop in
-    let g = c .before .before .before .before .before .before .before .before .before .before .args in
+    let g = c .before .before .before .before .before .before .before .before .before .before .before .before .args in
     let r = c .before .before .before .before .before .run-in .result in
     let rs = drop (b .i + 1) (firstOf (g .runs .now) (g .count)) in
     let e = first-next (g .runs .now) (g .count) (b .i) (omega arith) (omega arith) ∙ ap (λ (z : Run). z ∷ rs) (sym (c .before .before .before .before .before .run-in .ensures)) in
@@ -76,7 +87,7 @@ same-length c = c .before .loop .inv .3
 returns : tie.Need-returns Inv-loop μ-loop
 returns c =
     let b = c .before .loop in
-    let g = c .before .before .before .before .args in
+    let g = c .before .before .before .before .before .before .args in
     let z = first-end (g .runs .now) (g .count) (b .i) (omega arith) (omega arith) in
     (left-end (rw (none-laid (drop (b .k) (alphabets (g .m) (g .total - 1))) _ z) at (b .inv .5)), omega arith)
 
@@ -86,6 +97,8 @@ put-indices-spec =
     (tie.spec
     Inv-loop
     μ-loop
+    flog-requires
+    shorts-requires
     loop-holds
     mul-run-in
     run-in-requires
