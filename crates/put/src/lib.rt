@@ -93,13 +93,18 @@ fn spread_eight(value: u32) -> u64
     high + ((value % 2) as u64) * 72057594037927936
 }
 
-// The n low bits, each stored where the list has room for it: the lowest after the others.
+// The n low bits, each stored where the list has room for it: the lowest after the others, eight with room as a word.
 fn put_long(list: &mut [u8], at: usize, value: u32, n: u32) -> usize
     requires { ⌜ (n ≤ 32) × (at + 32 < 2 ^ 63) ⌝ }
     ensures { λ r. ⌜ Laid (now (list .entry)) at (bits n value) r (now (list .exit)) ⌝ }
 {
     if n == 0 {
         return at;
+    }
+    if n == 8 {
+        if at + 8 <= list.len() {
+            return lay_word(list, at, spread_eight(value), 8);
+        }
     }
     let to = put_long(list, at, value >> 1, n - 1);
     put_bin(list, to, (value % 2) as u8)
@@ -113,11 +118,6 @@ pub fn put_bits(list: &mut [u8], at: usize, value: u32, n: u32) -> usize
     if n <= 7 {
         if at + n as usize <= list.len() {
             return lay_word(list, at, spread_bits(value, n), n as usize);
-        }
-    }
-    if n == 8 {
-        if at + 8 <= list.len() {
-            return lay_word(list, at, spread_eight(value), 8);
         }
     }
     put_long(list, at, value, n)

@@ -44,6 +44,14 @@ module _ (f g : ℕ → ℕ) where
       let y : at + (i - at) ≡ i = omega arith in
       or-none bad d ∙ rw (z, same-join (i - at) (to - i) at, y, e, x)
 
+  -- a difference found before the end
+  pub same-early : (bad at i to : ℕ) → at ≤ i → i ≤ to → (bad ≡ 0 → ⊥) → eqb bad 0 ≡ same f g (i - at) at → eqb bad 0 ≡ same f g (to - at) at
+  unfolding both
+  same-early bad at i to h l d e =
+      let z : to - at ≡ (i - at) + (to - i) = omega arith in
+      let n = ne-eqb bad 0 d in
+      n ∙ sym (rw (z, same-join (i - at) (to - i) at, ← e, n))
+
 -- what stands at a place of a list
 abbrev pub cellAt : List ℕ → ℕ → ℕ
 cellAt xs j = getD xs j 0

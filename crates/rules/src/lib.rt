@@ -91,6 +91,9 @@ fn copied_run(cells: &[u16], from: usize, up: &[u16], at: usize, to: usize) -> u
         let a = word(cells, from + i);
         let b = word(up, i);
         bad = bad | (a ^ b);
+        if bad != 0 {
+            return bad;
+        }
         i += 4;
     }
     let a = word(cells, from + i);
@@ -110,6 +113,9 @@ fn drawn_run(cells: &[u16], from: usize, v: u16, at: usize, to: usize) -> u64
     while i + 4 < to {
         let a = word(cells, from + i);
         bad = bad | (a ^ four);
+        if bad != 0 {
+            return bad;
+        }
         i += 4;
     }
     let a = word(cells, from + i);

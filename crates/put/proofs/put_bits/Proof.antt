@@ -1,4 +1,4 @@
--- `put::put_bits`: at most eight bits as the bytes of a word where there is room.
+-- `put::put_bits`: at most seven bits as the bytes of a word where there is room.
 use borrow.Author.Needs.{needs}
 use Rattle.put.proofs.put_bits.Statement.{statement}
 use Rattle.put.proofs.put_bits.Tie as tie
@@ -7,7 +7,6 @@ use Rattle.put.proofs.put_bits.Lts as lts
 use Rattle.put.proofs.lay_word.Reads as lay-word-reads
 use Rattle.put.proofs.put_long.Reads as put-long-reads
 use Rattle.put.proofs.spread_bits.Reads as spread-bits-reads
-use Rattle.put.proofs.spread_eight.Reads as spread-eight-reads
 
 add-if2 : tie.Need-add-if2
 add-if2 c = search needs
@@ -24,29 +23,14 @@ same-length c = search needs
 returns : tie.Need-returns
 returns c = rw (← c .before .before .before .spread-bits .ensures) (c .before .before .lay-word .ensures)
 
-add-if4 : tie.Need-add-if4
-add-if4 c = search needs
-
-spread-eight-requires : tie.Need-spread-eight-requires
-spread-eight-requires c κs = search needs
-
-lay-word-requires-2 : tie.Need-lay-word-requires-2
-lay-word-requires-2 c κs = search needs
+put-long-requires : tie.Need-put-long-requires
+put-long-requires c κs = search needs
 
 same-length-2 : tie.Need-same-length-2
 same-length-2 c = search needs
 
 returns-2 : tie.Need-returns-2
-returns-2 c = rw (c .before .before .before .before .before .before .if3 .taken, ← c .before .before .before .spread-eight .ensures) (c .before .before .lay-word2 .ensures)
-
-put-long-requires : tie.Need-put-long-requires
-put-long-requires c κs = search needs
-
-same-length-3 : tie.Need-same-length-3
-same-length-3 c = search needs
-
-returns-3 : tie.Need-returns-3
-returns-3 c = search needs
+returns-2 c = search needs
 
 pub put-bits-spec : {M : Type 1} → statement M
 put-bits-spec =
@@ -57,11 +41,6 @@ put-bits-spec =
     lay-word-requires
     same-length
     returns
-    add-if4
-    spread-eight-requires
-    lay-word-requires-2
-    same-length-2
-    returns-2
     put-long-requires
-    same-length-3
-    returns-3)
+    same-length-2
+    returns-2)

@@ -4,7 +4,7 @@ use Prim.Native.Nat.{_+_, _-_, _<_, _≤_}
 use native.Mathlib.Omega.{arith}
 use lib.Dec.{eqb}
 use lib.ListN.{drop}
-use Rattle.rules.specs.Words.{same, cellAt, same-none, same-on, word-drop, word-same, first-same, copied-same}
+use Rattle.rules.specs.Words.{same, cellAt, same-none, same-on, same-early, word-drop, word-same, first-same, copied-same}
 use borrow.Author.Needs.{needs}
 use Rattle.rules.proofs.copied_run.Statement.{statement}
 use Rattle.rules.proofs.copied_run.Tie as tie
@@ -34,6 +34,16 @@ word-requires c κs = omega arith
 word-requires-2 : tie.Need-word-requires-2 Inv-loop μ-loop
 word-requires-2 c κs = omega arith
 
+returns : tie.Need-returns Inv-loop μ-loop
+returns c =
+    let g = c .before .before .before .before .before .before .before .args in
+    let l = c .before .before .before .before .loop in
+    let xs = drop (g .from) (g .cells .now) in
+    let e = word-same (cellAt xs) (cellAt (g .up .now)) (l .i) _ _ (word-drop (g .from) (g .cells .now) (l .i) _ (c .before .before .word .ensures)) (c .before .word2 .ensures) (l .i + 4 - l .i) (omega arith) in
+    let s = same-on (cellAt xs) (cellAt (g .up .now)) (l .bad) _ (g .at) (l .i) (l .i + 4) (l .inv .0) (omega arith) (l .inv .2) e in
+    let t = same-early (cellAt xs) (cellAt (g .up .now)) _ (g .at) (l .i + 4) (g .to) (omega arith) (omega arith) (c .if1 .taken) s in
+    λ size a. t ∙ copied-same size xs (g .up .now) (g .to - g .at) (g .at) (λ i h. a i (omega arith))
+
 add-i : tie.Need-add-i Inv-loop μ-loop
 add-i c = omega arith
 
@@ -42,10 +52,10 @@ loop-less c = omega arith
 
 loop-again : tie.Need-loop-again Inv-loop μ-loop
 loop-again c =
-    let g = c .before .before .before .before .before .before .args in
-    let l = c .before .before .before .loop in
+    let g = c .before .before .before .before .before .before .before .args in
+    let l = c .before .before .before .before .loop in
     let xs = drop (g .from) (g .cells .now) in
-    let e = word-same (cellAt xs) (cellAt (g .up .now)) (l .i) _ _ (word-drop (g .from) (g .cells .now) (l .i) _ (c .before .word .ensures)) (c .word2 .ensures) (l .i + 4 - l .i) (omega arith) in
+    let e = word-same (cellAt xs) (cellAt (g .up .now)) (l .i) _ _ (word-drop (g .from) (g .cells .now) (l .i) _ (c .before .before .word .ensures)) (c .before .word2 .ensures) (l .i + 4 - l .i) (omega arith) in
     (omega arith, omega arith, same-on (cellAt xs) (cellAt (g .up .now)) (l .bad) _ (g .at) (l .i) (l .i + 4) (l .inv .0) (omega arith) (l .inv .2) e)
 
 add-word-2 : tie.Need-add-word-2 Inv-loop μ-loop
@@ -63,8 +73,8 @@ sub-first-differ c = omega arith
 first-differ-requires : tie.Need-first-differ-requires Inv-loop μ-loop
 first-differ-requires c κs = omega arith
 
-returns : tie.Need-returns Inv-loop μ-loop
-returns c =
+returns-2 : tie.Need-returns-2 Inv-loop μ-loop
+returns-2 c =
     let g = c .before .before .before .before .before .before .before .args in
     let l = c .before .before .before .before .loop in
     let xs = drop (g .from) (g .cells .now) in
@@ -83,6 +93,7 @@ copied-run-spec =
     add-word
     word-requires
     word-requires-2
+    returns
     add-i
     loop-less
     loop-again
@@ -91,4 +102,4 @@ copied-run-spec =
     word-requires-4
     sub-first-differ
     first-differ-requires
-    returns)
+    returns-2)

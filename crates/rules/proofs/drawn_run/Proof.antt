@@ -4,7 +4,7 @@ use Prim.Native.Nat.{_+_, _-_, _<_, _≤_}
 use native.Mathlib.Omega.{arith}
 use lib.Dec.{eqb}
 use lib.ListN.{drop}
-use Rattle.rules.specs.Words.{same, cellAt, always, same-none, same-on, word-drop, word-same, first-same, drawn-same}
+use Rattle.rules.specs.Words.{same, cellAt, always, same-none, same-on, same-early, word-drop, word-same, first-same, drawn-same}
 use borrow.Author.Needs.{needs}
 use Rattle.rules.proofs.drawn_run.Statement.{statement}
 use Rattle.rules.proofs.drawn_run.Tie as tie
@@ -35,6 +35,16 @@ add-word c = omega arith
 word-requires : tie.Need-word-requires Inv-loop μ-loop
 word-requires c κs = omega arith
 
+returns : tie.Need-returns Inv-loop μ-loop
+returns c =
+    let g = c .before .before .before .before .before .before .args in
+    let l = c .before .before .before .loop in
+    let xs = drop (g .from) (g .cells .now) in
+    let e = word-same (cellAt xs) (always (g .v)) (l .i) _ _ (word-drop (g .from) (g .cells .now) (l .i) _ (c .before .word .ensures)) (c .before .before .before .before .four-times .ensures) (l .i + 4 - l .i) (omega arith) in
+    let s = same-on (cellAt xs) (always (g .v)) (l .bad) _ (g .at) (l .i) (l .i + 4) (l .inv .0) (omega arith) (l .inv .2) e in
+    let t = same-early (cellAt xs) (always (g .v)) _ (g .at) (l .i + 4) (g .to) (omega arith) (omega arith) (c .if1 .taken) s in
+    t ∙ drawn-same (g .v) xs (g .to - g .at) (g .at)
+
 add-i : tie.Need-add-i Inv-loop μ-loop
 add-i c = omega arith
 
@@ -43,10 +53,10 @@ loop-less c = omega arith
 
 loop-again : tie.Need-loop-again Inv-loop μ-loop
 loop-again c =
-    let g = c .before .before .before .before .before .args in
-    let l = c .before .before .loop in
+    let g = c .before .before .before .before .before .before .args in
+    let l = c .before .before .before .loop in
     let xs = drop (g .from) (g .cells .now) in
-    let e = word-same (cellAt xs) (always (g .v)) (l .i) _ _ (word-drop (g .from) (g .cells .now) (l .i) _ (c .word .ensures)) (c .before .before .before .four-times .ensures) (l .i + 4 - l .i) (omega arith) in
+    let e = word-same (cellAt xs) (always (g .v)) (l .i) _ _ (word-drop (g .from) (g .cells .now) (l .i) _ (c .before .word .ensures)) (c .before .before .before .before .four-times .ensures) (l .i + 4 - l .i) (omega arith) in
     (omega arith, omega arith, same-on (cellAt xs) (always (g .v)) (l .bad) _ (g .at) (l .i) (l .i + 4) (l .inv .0) (omega arith) (l .inv .2) e)
 
 add-word-2 : tie.Need-add-word-2 Inv-loop μ-loop
@@ -61,8 +71,8 @@ sub-first-differ c = omega arith
 first-differ-requires : tie.Need-first-differ-requires Inv-loop μ-loop
 first-differ-requires c κs = omega arith
 
-returns : tie.Need-returns Inv-loop μ-loop
-returns c =
+returns-2 : tie.Need-returns-2 Inv-loop μ-loop
+returns-2 c =
     let g = c .before .before .before .before .before .before .args in
     let l = c .before .before .before .loop in
     let xs = drop (g .from) (g .cells .now) in
@@ -80,6 +90,7 @@ drawn-run-spec =
     add-loop
     add-word
     word-requires
+    returns
     add-i
     loop-less
     loop-again
@@ -87,4 +98,4 @@ drawn-run-spec =
     word-requires-2
     sub-first-differ
     first-differ-requires
-    returns)
+    returns-2)
