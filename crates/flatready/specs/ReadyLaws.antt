@@ -98,7 +98,7 @@ module _ (b : List ℕ) (n : ℕ) (is : n ≡ number b 5) (some : 1 ≤ n) (few 
       let z : getD (blockOf b .indices) i 0 ≡ number b (336 + i) = index-at i h (omega arith) in
       rw (z, le-leb (number b (336 + i)) (number b 5 + bit (eqb (number b 8) 1) - 1) (omega arith), ne-eqb (number b (336 + i)) (number b 5) (λ w. omega arith))
 
-  pub band-plain : (i r : ℕ) → i + 128 ≤ 1024 → Under b (336 + i) 128 (n - 1) r → r ≡ 0 → (k : ℕ) → i ≤ k → k < i + 128 → cellHolds (blockOf b) k ≡ true
+  pub band-plain : (i r : ℕ) → i + 64 ≤ 1024 → Under b (336 + i) 64 (n - 1) r → r ≡ 0 → (k : ℕ) → i ≤ k → k < i + 64 → cellHolds (blockOf b) k ≡ true
   band-plain i r h u e k o t =
       let z : 336 + i + (k - i) ≡ 336 + k = omega arith in
       let l : number b (336 + k) ≤ n - 1 + r = rw z at (u (k - i) (omega arith)) in
@@ -125,10 +125,10 @@ module _ (b : List ℕ) (n : ℕ) (is : n ≡ number b 5) (some : 1 ≤ n) (few 
         let z : getD (blockOf b .indices) i 0 ≡ number b (336 + i) = index-at i h l in
         rw (z, greatest i l, t) (either (eqb (number b (336 + i)) (blockOf b .«palette_size»)) (λ w. rw w) (λ w. rw w))
 
-    pub band-escaped : (i r w : ℕ) → i + 128 ≤ 1024 → Under b (336 + i) 128 (n - 1) r → r ≡ 1 → Under b (1360 + 3 * i) 384 0 w → w ≤ m → (k : ℕ) → i ≤ k → k < i + 128 → cellHolds (blockOf b) k ≡ true
+    pub band-escaped : (i r w : ℕ) → i + 64 ≤ 1024 → Under b (336 + i) 64 n r → r ≡ 0 → Under b (1360 + 3 * i) 192 0 w → w ≤ m → (k : ℕ) → i ≤ k → k < i + 64 → cellHolds (blockOf b) k ≡ true
     band-escaped i r w h u e v f k o t =
         let z : 336 + i + (k - i) ≡ 336 + k = omega arith in
-        let l : number b (336 + k) ≤ n - 1 + r = rw z at (u (k - i) (omega arith)) in
+        let l : number b (336 + k) ≤ n + r = rw z at (u (k - i) (omega arith)) in
         let z₀ : 1360 + 3 * i + 3 * (k - i) ≡ 1360 + 3 * k = omega arith in
         let z₁ : 1360 + 3 * i + (3 * (k - i) + 1) ≡ 1360 + 3 * k + 1 = omega arith in
         let z₂ : 1360 + 3 * i + (3 * (k - i) + 2) ≡ 1360 + 3 * k + 2 = omega arith in
@@ -138,8 +138,8 @@ module _ (b : List ℕ) (n : ℕ) (is : n ≡ number b 5) (some : 1 ≤ n) (few 
         cell-escaped k (omega arith) (omega arith) (levels-fit k (omega arith) (omega arith) (omega arith) (omega arith))
 
 -- one band more
-pub band-next : (f : ℕ → Bool) (g : ℕ) → ((k : ℕ) → k < 128 * g → f k ≡ true) → ((k : ℕ) → 128 * g ≤ k → k < 128 * g + 128 → f k ≡ true) → (k : ℕ) → k < 128 * (g + 1) → f k ≡ true
-band-next f g h o k l = ⊎-elim (λ (z : k < 128 * g). h k z) (λ (z : 128 * g ≤ k). o k z (omega arith)) (lt-or-le k (128 * g))
+pub band-next : (f : ℕ → Bool) (g : ℕ) → ((k : ℕ) → k < 64 * g → f k ≡ true) → ((k : ℕ) → 64 * g ≤ k → k < 64 * g + 64 → f k ≡ true) → (k : ℕ) → k < 64 * (g + 1) → f k ≡ true
+band-next f g h o k l = ⊎-elim (λ (z : k < 64 * g). h k z) (λ (z : 64 * g ≤ k). o k z (omega arith)) (lt-or-le k (64 * g))
 
 -- ---- the block
 

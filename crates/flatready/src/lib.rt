@@ -96,7 +96,7 @@ fn reused(list: &[u16], count: usize) -> usize
     requires { ⌜ (count ≤ 128) × (336 ≤ length (now list)) ⌝ }
     ensures { λ r. ⌜ (r ≡ trues (take count (blockOf (now (list .entry)) .reused))) × (r ≤ 128) ⌝ }
 {
-    let mut t: usize = 0;
+    let mut t: u16 = 0;
     let mut i: usize = 0;
     while i < count {
         if list[208 + i] == 1 {
@@ -104,7 +104,7 @@ fn reused(list: &[u16], count: usize) -> usize
         }
         i += 1;
     }
-    t
+    t as usize
 }
 
 // The clauses on a block's numbers.
@@ -136,17 +136,18 @@ fn level_most(list: &[u16]) -> u16
     32767
 }
 
-// Whether the indices of 128 cells from i on are of entries, or else escapes are on and the levels of these cells at most m.
+// Whether the indices of 64 cells from i on are of entries, or else escapes are on and the levels of these cells at most m.
 fn band_ready(list: &[u16], i: usize, n: u16, m: u16) -> bool
-    requires { ⌜ (4432 ≤ length (now list)) × (i + 128 ≤ 1024) × (1 ≤ n) × (n ≤ 64) × (n ≡ number (now list) 5) × (number (now list) 2 ≡ number (now list) 3) × (m ≤ levelMost (now list)) ⌝ }
-    ensures { λ r. ⌜ (r ≡ true → (k : ℕ) → i ≤ k → k < i + 128 → cellHolds (blockOf (now (list .entry))) k ≡ true) ⌝ }
+    requires { ⌜ (4432 ≤ length (now list)) × (i + 64 ≤ 1024) × (1 ≤ n) × (n ≤ 64) × (n ≡ number (now list) 5) × (number (now list) 2 ≡ number (now list) 3) × (m ≤ levelMost (now list)) ⌝ }
+    ensures { λ r. ⌜ (r ≡ true → (k : ℕ) → i ≤ k → k < i + 64 → cellHolds (blockOf (now (list .entry))) k ≡ true) ⌝ }
 {
-    let past = reach(list, 336 + i, 32, n - 1);
-    if past == 0 {
+    if reach(list, 336 + i, 16, n - 1) == 0 {
         return true;
     }
-    if (past == 1) & (list[8] == 1) {
-        return reach(list, 1360 + 3 * i, 96, 0) <= m;
+    if list[8] == 1 {
+        if reach(list, 336 + i, 16, n) == 0 {
+            return reach(list, 1360 + 3 * i, 48, 0) <= m;
+        }
     }
     false
 }
@@ -158,8 +159,8 @@ fn cells_ready(list: &[u16], cells: usize, n: u16) -> bool
 {
     let m = level_most(list);
     let mut g: usize = 0;
-    while 128 * g < cells {
-        if band_ready(list, 128 * g, n, m) {
+    while 64 * g < cells {
+        if band_ready(list, 64 * g, n, m) {
             g += 1;
         } else {
             return false;

@@ -7,13 +7,13 @@ use Prim.Native.Nat.{ℕ, zero, suc, _+_, _*_, _-_, _≤_, _<_, min}
 use native.Mathlib.Nat.{min-eq-left, min-eq-right, min-le-left, min-le-right}
 use native.Mathlib.Numerals.{add-one}
 use native.Mathlib.Omega.{arith}
-use borrow.Author.Tests.{eq-eqb, ne-eqb}
+use borrow.Author.Tests.{eq-eqb, eqb-true, ne-eqb}
 use lib.Dec.{eqb}
 use lib.ListN.{length, take, drop, getD, set, replicate, length-append, length-set, length-replicate, length-take, length-drop, drop-of-length-le}
 use lib.Seq.{sets, length-sets, sets-eq, drop-cons, take-take, take-all, take-at, length-take-le, getD-take, getD-drop, set-comm}
 use Rattle.base.specs.Cells.{laid-length}
 use Rattle.base.specs.Laid.{sets-append}
-use Rattle.base.specs.Pick.{pick, lt-or-le}
+use Rattle.base.specs.Pick.{pick, either, true-false, lt-or-le}
 use Rattle.h265.specs.Predictor.{unreused, updated, updated-length, unreused-at, unreused-none}
 use Rattle.flat.specs.Flat.{number, colorAt, blockOf, predictorOf, colorsOf, flatPredictor}
 use Rattle.flat.specs.FlatLaws.{each-at, colors-length}
@@ -224,6 +224,13 @@ pub record Kept (l old b : List ℕ) (first flags limit k : ℕ) (after : List �
   pub count : (cs : List Color) → old ≡ colorsOf cs → k ≡ first + length (keptOf b first flags limit cs)
   pub is : (cs : List Color) → old ≡ colorsOf cs → after ≡ sets l (1 + 3 * first) (colorsOf (keptOf b first flags limit cs))
 
+-- old entry j is laid as entry k where its flag is off
+pub record Stepped (list old b : List ℕ) (k j r : ℕ) (after : List ℕ) : Type 0 where
+  pub passed : number b (208 + j) ≡ 1 → (r ≡ k) × (after ≡ list)
+  pub kept : (number b (208 + j) ≡ 1 → ⊥) → (r ≡ k + 1) × (after ≡ set (set (set list (1 + 3 * k) (getD old (3 * j) 0)) (1 + 3 * k + 1) (getD old (3 * j + 1) 0)) (1 + 3 * k + 2) (getD old (3 * j + 2) 0))
+  pub long : length after ≡ length list
+  pub most : r ≤ k + 1
+
 -- at old entry j: what is laid and what is to follow make the whole
 pub record Keeping (l b : List ℕ) (first flags limit : ℕ) (cs : List Color) (k j : ℕ) (list : List ℕ) : Type 0 where
   pub laid : List Color
@@ -281,6 +288,40 @@ module _ (l old b : List ℕ) (first flags limit : ℕ) (few : flags ≤ 128) (l
         let s : length (f .laid) ≤ limit - first = omega (arith, f .count) in
         let t : length (take flags cs) ≤ j = omega (arith, length-take-le flags cs (omega (arith, many))) in
         done (sym (take-all (limit - first) (f .laid) s) ∙ rw (unreused-none (take flags (blockOf b .reused)) j (take flags cs) t, append-nil) at (f .makes))
+
+    pub keeping-step : (r : ℕ) (after : List ℕ) → j < flags → Stepped list old b k j r after → Keeping l b first flags limit cs r (j + 1) after
+    keeping-step r after h s =
+        either (eqb (number b (208 + j)) 1)
+        (λ e.
+        let y : number b (208 + j) ≡ 1 = eqb-true _ _ e in
+        rw (s .passed y .0, s .passed y .1) (keeping-passed h y))
+        (λ e.
+        let n : number b (208 + j) ≡ 1 → ⊥ = λ y. true-false (sym (eq-eqb _ _ y) ∙ e) in
+        rw (s .kept n .0, s .kept n .1) (keeping-kept h n))
+
+-- n old entries from j on are laid so, whatever the entries are to make
+pub record Walked (list old b : List ℕ) (k j n r : ℕ) (after : List ℕ) : Type 0 where
+  pub long : length after ≡ length list
+  pub most : r ≤ k + n
+  pub on : (l : List ℕ) (first flags limit : ℕ) (cs : List Color) → flags ≤ 128 → 384 ≤ length old → old ≡ colorsOf cs → j + n ≤ flags → Keeping l b first flags limit cs k j list → Keeping l b first flags limit cs r (j + n) after
+
+module _ (list old b : List ℕ) (k j : ℕ) where
+  pub walked-one : (r : ℕ) (after : List ℕ) → Stepped list old b k j r after → Walked list old b k j 1 r after
+  walked-one r after s = record {
+    long = s .long;
+    most = s .most;
+    on = λ l first flags limit cs few long e h f. keeping-step l old b first flags limit few long cs e k j list f r after (omega arith) s;
+  }
+
+  -- one more
+  pub walked-next : (n r q : ℕ) (mid after : List ℕ) → Walked list old b k j n r mid → Stepped mid old b r (j + n) q after → Walked list old b k j (n + 1) q after
+  walked-next n r q mid after w s = record {
+    long = s .long ∙ w .long;
+    most = omega (arith, w .most, s .most);
+    on = λ l first flags limit cs few long e h f.
+        let z : j + n + 1 ≡ j + (n + 1) = omega arith in
+        rw z at (keeping-step l old b first flags limit few long cs e r (j + n) mid (w .on l first flags limit cs few long e (omega arith) f) q after (omega arith) s);
+  }
 
 -- ---- the whole
 

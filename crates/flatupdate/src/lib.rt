@@ -1,11 +1,11 @@
 // The predictor's update on the list of numbers that crate flat lays it out as, of a call in order.
 ghost use mathlib.Core.Path.{_≡_};
-ghost use Prim.Native.Nat.{_+_, _*_, _-_, _≤_, min};
+ghost use Prim.Native.Nat.{_+_, _*_, _-_, _≤_, _<_, min};
 ghost use lib.ListN.{length, take, drop, set, replicate};
 ghost use lib.Seq.{sets};
 ghost use Rattle.flat.specs.Flat.{flatPredictor};
 ghost use Rattle.flatready.specs.Ready.{Ready};
-ghost use Rattle.flatupdate.specs.Renewing.{Kept, afterOf};
+ghost use Rattle.flatupdate.specs.Renewing.{Kept, Stepped, Walked, afterOf};
 
 // The smaller of two numbers.
 fn least(a: usize, b: usize) -> usize
@@ -29,6 +29,31 @@ fn copy(list: &mut [u16], to: usize, source: &[u16], from: usize, n: usize)
     }
 }
 
+// Old entry j laid as entry k where its flag is off; and how many entries stand then.
+fn keep_one(list: &mut [u16], old: &[u16], block: &[u16], k: usize, j: usize) -> usize
+    requires { ⌜ (385 ≤ length (now list)) × (384 ≤ length (now old)) × (4432 ≤ length (now block)) × (k < 128) × (j < 128) ⌝ }
+    ensures { λ r. ⌜ Stepped (now (list .entry)) (now (old .entry)) (now (block .entry)) k j r (now (list .exit)) ⌝ }
+{
+    if block[208 + j] == 1 {
+        return k;
+    }
+    list[1 + 3 * k] = old[3 * j];
+    list[1 + 3 * k + 1] = old[3 * j + 1];
+    list[1 + 3 * k + 2] = old[3 * j + 2];
+    k + 1
+}
+
+// Four old entries from j on laid so.
+fn keep_four(list: &mut [u16], old: &[u16], block: &[u16], k: usize, j: usize) -> usize
+    requires { ⌜ (385 ≤ length (now list)) × (384 ≤ length (now old)) × (4432 ≤ length (now block)) × (k + 4 ≤ 128) × (j + 4 ≤ 128) ⌝ }
+    ensures { λ r. ⌜ Walked (now (list .entry)) (now (old .entry)) (now (block .entry)) k j 4 r (now (list .exit)) ⌝ }
+{
+    let a = keep_one(list, old, block, k, j);
+    let b = keep_one(list, old, block, a, j + 1);
+    let c = keep_one(list, old, block, b, j + 2);
+    keep_one(list, old, block, c, j + 3)
+}
+
 // The old entries whose flags are off, of those that have flags, laid after the first entries, up to the limit; and how many entries stand then.
 fn keep(
     list: &mut [u16],
@@ -47,13 +72,11 @@ fn keep(
         if limit <= k {
             return k;
         }
-        if block[208 + j] == 1 {
-            j += 1;
+        if (j + 4 <= flags) & (k + 4 <= limit) {
+            k = keep_four(list, old, block, k, j);
+            j += 4;
         } else {
-            list[1 + 3 * k] = old[3 * j];
-            list[1 + 3 * k + 1] = old[3 * j + 1];
-            list[1 + 3 * k + 2] = old[3 * j + 2];
-            k += 1;
+            k = keep_one(list, old, block, k, j);
             j += 1;
         }
     }

@@ -17,10 +17,10 @@ use Rattle.flatready.proofs.band_ready.Reads as band-ready-reads
 use Rattle.flatready.proofs.level_most.Reads as level-most-reads
 
 abbrev Inv-loop : tie.InvT-loop
-Inv-loop list cells n m g₀ g = (g ≤ 8) × ((k : ℕ) → k < 128 * g → cellHolds (blockOf list) k ≡ true)
+Inv-loop list cells n m g₀ g = (g ≤ 16) × ((k : ℕ) → k < 64 * g → cellHolds (blockOf list) k ≡ true)
 
 abbrev μ-loop : tie.MeasureT-loop
-μ-loop list cells n m g₀ g = 8 - g
+μ-loop list cells n m g₀ g = 16 - g
 
 level-most-requires : tie.Need-level-most-requires Inv-loop μ-loop
 level-most-requires c κs = omega arith

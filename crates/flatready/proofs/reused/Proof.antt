@@ -49,6 +49,9 @@ loop-again c =
     (λ w. (omega arith, omega arith, omega (arith, flag-off b (c .before .before .before .before .args .count) (l .i) (omega arith) (omega arith) (w .0 .left))))
     (c .if1 .came)
 
+cast-result : tie.Need-cast-result Inv-loop μ-loop
+cast-result c = omega arith
+
 returns : tie.Need-returns Inv-loop μ-loop
 returns c = (omega (arith, flags-end (c .before .before .args .list .now) (c .before .before .args .count) (c .before .loop .i) (omega arith) (omega arith)), omega arith)
 
@@ -66,4 +69,5 @@ reused-spec =
     add-i
     loop-less
     loop-again
+    cast-result
     returns)

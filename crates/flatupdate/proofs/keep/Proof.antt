@@ -1,17 +1,22 @@
 -- `flatupdate::keep`. The loop's invariant: what is laid and what is to follow make the whole.
-use mathlib.Core.Path.{_≡_, refl, _∙_}
+use mathlib.Core.Path.{_≡_, refl, sym, _∙_}
 use mathlib.Core.List.{List}
-use Prim.Native.Nat.{_+_, _*_, _-_, _≤_}
+use Prim.Native.Nat.{_+_, _-_, _≤_}
 use native.Mathlib.Omega.{arith}
-use lib.ListN.{length, length-set}
+use borrow.Author.Tests.{leb-true}
+use lib.Dec.{leb}
+use lib.ListN.{length}
+use Rattle.base.specs.Tests.{both, and-pick}
 use Rattle.model.specs.declared.Color.{Color}
-use Rattle.flat.specs.Flat.{number, colorsOf}
-use Rattle.flatupdate.specs.Renewing.{Keeping, keeping-start, keeping-passed, keeping-kept, keeping-full, keeping-end, two-long, three-long}
+use Rattle.flat.specs.Flat.{colorsOf}
+use Rattle.flatupdate.specs.Renewing.{Keeping, keeping-start, keeping-step, keeping-full, keeping-end}
 use borrow.Author.Needs.{needs}
 use Rattle.flatupdate.proofs.keep.Statement.{statement}
 use Rattle.flatupdate.proofs.keep.Tie as tie
 use Rattle.flatupdate.proofs.keep.Reads as reads
 use Rattle.flatupdate.proofs.keep.Lts as lts
+use Rattle.flatupdate.proofs.keep_four.Reads as keep-four-reads
+use Rattle.flatupdate.proofs.keep_one.Reads as keep-one-reads
 
 abbrev Inv-loop : tie.InvT-loop
 Inv-loop list₀ old block first flags limit k₀ j₀ list k j = (j ≤ flags) × (k ≤ limit) × (length list ≡ length list₀) × ((cs : List Color) → old ≡ colorsOf cs → Keeping list₀ block first flags limit cs k j list)
@@ -20,7 +25,7 @@ abbrev μ-loop : tie.MeasureT-loop
 μ-loop list₀ old block first flags limit k₀ j₀ list k j = flags - j
 
 loop-holds : tie.Need-loop-holds Inv-loop μ-loop
-loop-holds c = (omega arith, omega arith, refl, λ cs e. keeping-start (c .args .list .now) (c .args .old .now) (c .args .block .now) (c .args .first) (c .args .flags) (c .args .limit) (c .pre .5) (c .pre .1) cs e)
+loop-holds c = (omega arith, omega arith, refl, λ cs e. keeping-start (c .before .before .before .args .list .now) (c .before .before .before .args .old .now) (c .before .before .before .args .block .now) (c .before .before .before .args .first) (c .before .before .before .args .flags) (c .before .before .before .args .limit) (c .before .before .before .pre .5) (c .before .before .before .pre .1) cs e)
 
 same-length : tie.Need-same-length Inv-loop μ-loop
 same-length c = c .before .before .loop .inv .2
@@ -31,18 +36,23 @@ returns c =
     record {
       most = l .inv .1;
       long = l .inv .2;
-      count = λ cs e. keeping-full (c .before .before .before .args .list .now) (c .before .before .before .args .old .now) (c .before .before .before .args .block .now) (c .before .before .before .args .first) (c .before .before .before .args .flags) (c .before .before .before .args .limit) (c .before .before .before .pre .5) (c .before .before .before .pre .1) cs e (l .k) (l .j) (l .list) (l .inv .3 cs e) (c .before .before .before .pre .3) (c .if1 .taken) (l .inv .1) .0;
-      is = λ cs e. keeping-full (c .before .before .before .args .list .now) (c .before .before .before .args .old .now) (c .before .before .before .args .block .now) (c .before .before .before .args .first) (c .before .before .before .args .flags) (c .before .before .before .args .limit) (c .before .before .before .pre .5) (c .before .before .before .pre .1) cs e (l .k) (l .j) (l .list) (l .inv .3 cs e) (c .before .before .before .pre .3) (c .if1 .taken) (l .inv .1) .1;
+      count = λ cs e. keeping-full (c .before .before .before .before .before .before .args .list .now) (c .before .before .before .before .before .before .args .old .now) (c .before .before .before .before .before .before .args .block .now) (c .before .before .before .before .before .before .args .first) (c .before .before .before .before .before .before .args .flags) (c .before .before .before .before .before .before .args .limit) (c .before .before .before .before .before .before .pre .5) (c .before .before .before .before .before .before .pre .1) cs e (l .k) (l .j) (l .list) (l .inv .3 cs e) (c .before .before .before .before .before .before .pre .3) (c .if1 .taken) (l .inv .1) .0;
+      is = λ cs e. keeping-full (c .before .before .before .before .before .before .args .list .now) (c .before .before .before .before .before .before .args .old .now) (c .before .before .before .before .before .before .args .block .now) (c .before .before .before .before .before .before .args .first) (c .before .before .before .before .before .before .args .flags) (c .before .before .before .before .before .before .args .limit) (c .before .before .before .before .before .before .pre .5) (c .before .before .before .before .before .before .pre .1) cs e (l .k) (l .j) (l .list) (l .inv .3 cs e) (c .before .before .before .before .before .before .pre .3) (c .if1 .taken) (l .inv .1) .1;
     }
 
 add-if2 : tie.Need-add-if2 Inv-loop μ-loop
 add-if2 c = omega arith
 
-mul-if2 : tie.Need-mul-if2 Inv-loop μ-loop
-mul-if2 c = omega arith
+add-if2-2 : tie.Need-add-if2-2 Inv-loop μ-loop
+add-if2-2 c = omega arith
 
-shared-slice-read-if2 : tie.Need-shared-slice-read-if2 Inv-loop μ-loop
-shared-slice-read-if2 c = omega arith
+keep-four-requires : tie.Need-keep-four-requires Inv-loop μ-loop
+keep-four-requires c κs =
+    let l = c .before .before .before .before .loop in
+    let t = both (leb (l .j + 4) (c .before .before .before .before .before .before .before .before .args .flags)) (leb (l .k + 4) (c .before .before .before .before .before .before .before .before .args .limit)) (sym (and-pick (leb (l .j + 4) (c .before .before .before .before .before .before .before .before .args .flags)) (leb (l .k + 4) (c .before .before .before .before .before .before .before .before .args .limit))) ∙ c .before .if2 .taken) in
+    let a : l .j + 4 ≤ c .before .before .before .before .before .before .before .before .args .flags = leb-true _ _ (t .0) in
+    let b : l .k + 4 ≤ c .before .before .before .before .before .before .before .before .args .limit = leb-true _ _ (t .1) in
+    (omega arith, c .before .before .before .before .before .before .before .before .pre .1, c .before .before .before .before .before .before .before .before .pre .2, omega arith, omega arith)
 
 add-j : tie.Need-add-j Inv-loop μ-loop
 add-j c = omega arith
@@ -52,90 +62,14 @@ loop-less c = omega arith
 
 loop-again : tie.Need-loop-again Inv-loop μ-loop
 loop-again c =
-    let l = c .before .before .before .before .loop in
-    (omega arith, l .inv .1, l .inv .2, λ cs e. keeping-passed (c .before .before .before .before .before .args .list .now) (c .before .before .before .before .before .args .old .now) (c .before .before .before .before .before .args .block .now) (c .before .before .before .before .before .args .first) (c .before .before .before .before .before .args .flags) (c .before .before .before .before .before .args .limit) (c .before .before .before .before .before .pre .5) (c .before .before .before .before .before .pre .1) cs e (l .k) (l .j) (l .list) (l .inv .3 cs e) (c .before .before .before .loop-test .taken) (c .if2 .taken))
-
-mul-list : tie.Need-mul-list Inv-loop μ-loop
-mul-list c = omega arith
-
-mul-list-2 : tie.Need-mul-list-2 Inv-loop μ-loop
-mul-list-2 c = omega arith
-
-shared-slice-read-list : tie.Need-shared-slice-read-list Inv-loop μ-loop
-shared-slice-read-list c = omega arith
-
-mul-list-3 : tie.Need-mul-list-3 Inv-loop μ-loop
-mul-list-3 c = omega arith
-
-add-list : tie.Need-add-list Inv-loop μ-loop
-add-list c = omega arith
-
-mul-list-4 : tie.Need-mul-list-4 Inv-loop μ-loop
-mul-list-4 c = omega arith
-
-slice-write-list : tie.Need-slice-write-list Inv-loop μ-loop
-slice-write-list c = omega arith
-
-mul-list-5 : tie.Need-mul-list-5 Inv-loop μ-loop
-mul-list-5 c = omega arith
-
-add-list-2 : tie.Need-add-list-2 Inv-loop μ-loop
-add-list-2 c = omega arith
-
-mul-list-6 : tie.Need-mul-list-6 Inv-loop μ-loop
-mul-list-6 c = omega arith
-
-shared-slice-read-list-2 : tie.Need-shared-slice-read-list-2 Inv-loop μ-loop
-shared-slice-read-list-2 c = omega arith
-
-mul-list-7 : tie.Need-mul-list-7 Inv-loop μ-loop
-mul-list-7 c = omega arith
-
-add-list-3 : tie.Need-add-list-3 Inv-loop μ-loop
-add-list-3 c = omega arith
-
-add-list-4 : tie.Need-add-list-4 Inv-loop μ-loop
-add-list-4 c = omega arith
-
-mul-list-8 : tie.Need-mul-list-8 Inv-loop μ-loop
-mul-list-8 c = omega arith
-
-slice-write-list-2 : tie.Need-slice-write-list-2 Inv-loop μ-loop
-slice-write-list-2 c =
-    let l = c .before .before .before .before .before .before .loop in
-    omega (arith, length-set (l .list) (1 + 3 * l .k) (number (c .before .before .before .before .before .before .before .args .old .now) (3 * l .j)))
-
-mul-list-9 : tie.Need-mul-list-9 Inv-loop μ-loop
-mul-list-9 c = omega arith
-
-add-list-5 : tie.Need-add-list-5 Inv-loop μ-loop
-add-list-5 c = omega arith
-
-mul-list-10 : tie.Need-mul-list-10 Inv-loop μ-loop
-mul-list-10 c = omega arith
-
-shared-slice-read-list-3 : tie.Need-shared-slice-read-list-3 Inv-loop μ-loop
-shared-slice-read-list-3 c = omega arith
-
-mul-list-11 : tie.Need-mul-list-11 Inv-loop μ-loop
-mul-list-11 c = omega arith
-
-add-list-6 : tie.Need-add-list-6 Inv-loop μ-loop
-add-list-6 c = omega arith
-
-add-list-7 : tie.Need-add-list-7 Inv-loop μ-loop
-add-list-7 c = omega arith
-
-mul-list-12 : tie.Need-mul-list-12 Inv-loop μ-loop
-mul-list-12 c = omega arith
-
-slice-write-list-3 : tie.Need-slice-write-list-3 Inv-loop μ-loop
-slice-write-list-3 c =
     let l = c .before .before .before .before .before .before .before .loop in
-    omega (arith, two-long (l .list) (1 + 3 * l .k) (1 + 3 * l .k + 1) (number (c .before .before .before .before .before .before .before .before .args .old .now) (3 * l .j)) (number (c .before .before .before .before .before .before .before .before .args .old .now) (3 * l .j + 1)))
+    let t = both (leb (l .j + 4) (c .before .before .before .before .before .before .before .before .before .before .before .args .flags)) (leb (l .k + 4) (c .before .before .before .before .before .before .before .before .before .before .before .args .limit)) (sym (and-pick (leb (l .j + 4) (c .before .before .before .before .before .before .before .before .before .before .before .args .flags)) (leb (l .k + 4) (c .before .before .before .before .before .before .before .before .before .before .before .args .limit))) ∙ c .before .before .before .before .if2 .taken) in
+    let a : l .j + 4 ≤ c .before .before .before .before .before .before .before .before .before .before .before .args .flags = leb-true _ _ (t .0) in
+    let b : l .k + 4 ≤ c .before .before .before .before .before .before .before .before .before .before .before .args .limit = leb-true _ _ (t .1) in
+    (a, omega (arith, c .before .before .keep-four .ensures .most), c .before .before .keep-four .ensures .long ∙ l .inv .2, λ cs e. c .before .before .keep-four .ensures .on (c .before .before .before .before .before .before .before .before .before .before .before .args .list .now) (c .before .before .before .before .before .before .before .before .before .before .before .args .first) (c .before .before .before .before .before .before .before .before .before .before .before .args .flags) (c .before .before .before .before .before .before .before .before .before .before .before .args .limit) cs (c .before .before .before .before .before .before .before .before .before .before .before .pre .5) (c .before .before .before .before .before .before .before .before .before .before .before .pre .1) e a (l .inv .3 cs e))
 
-add-k : tie.Need-add-k Inv-loop μ-loop
-add-k c = omega arith
+keep-one-requires : tie.Need-keep-one-requires Inv-loop μ-loop
+keep-one-requires c κs = (omega arith, c .before .before .before .before .before .before .before .before .pre .1, c .before .before .before .before .before .before .before .before .pre .2, omega arith, omega arith)
 
 add-j-2 : tie.Need-add-j-2 Inv-loop μ-loop
 add-j-2 c = omega arith
@@ -146,7 +80,7 @@ loop-less-2 c = omega arith
 loop-again-2 : tie.Need-loop-again-2 Inv-loop μ-loop
 loop-again-2 c =
     let l = c .before .before .before .before .before .before .before .loop in
-    (omega arith, omega arith, three-long (l .list) (1 + 3 * l .k) (1 + 3 * l .k + 1) (1 + 3 * l .k + 2) (number (c .before .before .before .before .before .before .before .before .args .old .now) (3 * l .j)) (number (c .before .before .before .before .before .before .before .before .args .old .now) (3 * l .j + 1)) (number (c .before .before .before .before .before .before .before .before .args .old .now) (3 * l .j + 2)) ∙ l .inv .2, λ cs e. keeping-kept (c .before .before .before .before .before .before .before .before .args .list .now) (c .before .before .before .before .before .before .before .before .args .old .now) (c .before .before .before .before .before .before .before .before .args .block .now) (c .before .before .before .before .before .before .before .before .args .first) (c .before .before .before .before .before .before .before .before .args .flags) (c .before .before .before .before .before .before .before .before .args .limit) (c .before .before .before .before .before .before .before .before .pre .5) (c .before .before .before .before .before .before .before .before .pre .1) cs e (l .k) (l .j) (l .list) (l .inv .3 cs e) (c .before .before .before .before .before .before .loop-test .taken) (c .before .before .before .if2 .left))
+    (omega arith, omega (arith, c .before .before .keep-one .ensures .most), c .before .before .keep-one .ensures .long ∙ l .inv .2, λ cs e. keeping-step (c .before .before .before .before .before .before .before .before .before .before .before .args .list .now) (c .before .before .before .before .before .before .before .before .before .before .before .args .old .now) (c .before .before .before .before .before .before .before .before .before .before .before .args .block .now) (c .before .before .before .before .before .before .before .before .before .before .before .args .first) (c .before .before .before .before .before .before .before .before .before .before .before .args .flags) (c .before .before .before .before .before .before .before .before .before .before .before .args .limit) (c .before .before .before .before .before .before .before .before .before .before .before .pre .5) (c .before .before .before .before .before .before .before .before .before .before .before .pre .1) cs e (l .k) (l .j) (l .list) (l .inv .3 cs e) _ _ (c .before .before .before .before .before .before .loop-test .taken) (c .before .before .keep-one .ensures))
 
 same-length-2 : tie.Need-same-length-2 Inv-loop μ-loop
 same-length-2 c = c .before .loop .inv .2
@@ -157,8 +91,8 @@ returns-2 c =
     record {
       most = l .inv .1;
       long = l .inv .2;
-      count = λ cs e. keeping-end (c .before .before .args .list .now) (c .before .before .args .old .now) (c .before .before .args .block .now) (c .before .before .args .first) (c .before .before .args .flags) (c .before .before .args .limit) (c .before .before .pre .5) (c .before .before .pre .1) cs e (l .k) (l .j) (l .list) (l .inv .3 cs e) (c .loop-test .left) (l .inv .1) .0;
-      is = λ cs e. keeping-end (c .before .before .args .list .now) (c .before .before .args .old .now) (c .before .before .args .block .now) (c .before .before .args .first) (c .before .before .args .flags) (c .before .before .args .limit) (c .before .before .pre .5) (c .before .before .pre .1) cs e (l .k) (l .j) (l .list) (l .inv .3 cs e) (c .loop-test .left) (l .inv .1) .1;
+      count = λ cs e. keeping-end (c .before .before .before .before .before .args .list .now) (c .before .before .before .before .before .args .old .now) (c .before .before .before .before .before .args .block .now) (c .before .before .before .before .before .args .first) (c .before .before .before .before .before .args .flags) (c .before .before .before .before .before .args .limit) (c .before .before .before .before .before .pre .5) (c .before .before .before .before .before .pre .1) cs e (l .k) (l .j) (l .list) (l .inv .3 cs e) (c .loop-test .left) (l .inv .1) .0;
+      is = λ cs e. keeping-end (c .before .before .before .before .before .args .list .now) (c .before .before .before .before .before .args .old .now) (c .before .before .before .before .before .args .block .now) (c .before .before .before .before .before .args .first) (c .before .before .before .before .before .args .flags) (c .before .before .before .before .before .args .limit) (c .before .before .before .before .before .pre .5) (c .before .before .before .before .before .pre .1) cs e (l .k) (l .j) (l .list) (l .inv .3 cs e) (c .loop-test .left) (l .inv .1) .1;
     }
 
 pub keep-spec : {M : Type 1} → statement M
@@ -171,37 +105,12 @@ keep-spec =
     same-length
     returns
     add-if2
-    mul-if2
-    shared-slice-read-if2
+    add-if2-2
+    keep-four-requires
     add-j
     loop-less
     loop-again
-    mul-list
-    mul-list-2
-    shared-slice-read-list
-    mul-list-3
-    add-list
-    mul-list-4
-    slice-write-list
-    mul-list-5
-    add-list-2
-    mul-list-6
-    shared-slice-read-list-2
-    mul-list-7
-    add-list-3
-    add-list-4
-    mul-list-8
-    slice-write-list-2
-    mul-list-9
-    add-list-5
-    mul-list-10
-    shared-slice-read-list-3
-    mul-list-11
-    add-list-6
-    add-list-7
-    mul-list-12
-    slice-write-list-3
-    add-k
+    keep-one-requires
     add-j-2
     loop-less-2
     loop-again-2
