@@ -8,15 +8,10 @@ use flatupdate::renew;
 use layflat::lay_predictor;
 use predictor::update;
 
-// The predictor after a block.
-#[no_mangle]
-pub extern "C" fn velomitra_update(predictor: &mut [u16], block: &[u16], limit: usize) -> u8
+// The predictor after a block, by way of the records.
+fn by_records(predictor: &mut [u16], block: &[u16], limit: usize) -> u8
     ensures { λ r. ⌜ (r, now (predictor .exit)) ≡ updateOut (now (predictor .entry)) (now (block .entry)) limit ⌝ }
 {
-    if ready(predictor, block, limit) {
-        renew(predictor, block, limit);
-        return 0;
-    }
     let p = predictor_of(predictor);
     let cu = block_of(block);
     let done = update(p, cu, limit);
@@ -26,4 +21,19 @@ pub extern "C" fn velomitra_update(predictor: &mut [u16], block: &[u16], limit: 
         return 0;
     }
     done.refusal
+}
+
+// The predictor after a block. A limit that is refused is told apart, so that the records stay out of a call in order.
+#[no_mangle]
+pub extern "C" fn velomitra_update(predictor: &mut [u16], block: &[u16], limit: usize) -> u8
+    ensures { λ r. ⌜ (r, now (predictor .exit)) ≡ updateOut (now (predictor .entry)) (now (block .entry)) limit ⌝ }
+{
+    if 128 < limit {
+        return by_records(predictor, block, limit);
+    }
+    if ready(predictor, block, limit) {
+        renew(predictor, block, limit);
+        return 0;
+    }
+    by_records(predictor, block, limit)
 }
