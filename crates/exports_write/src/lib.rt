@@ -27,16 +27,26 @@ fn in_order(block: &[u16], runs: &[u32], count: usize) -> bool
     false
 }
 
-// The writer's answer over the records that the lists are.
-fn written(block: &[u16], runs: &[u32], count: usize, bins: &mut [u8]) -> Written
+// The writer's answer by way of the records that the lists are.
+fn by_records(block: &[u16], runs: &[u32], count: usize, bins: &mut [u8]) -> Written
     ensures { λ r. ⌜ (r ≡ writeOf (blockOf (now (block .entry))) (runsOf (now (runs .entry)) count) count (length (now (bins .entry)))) × (now (bins .exit) ≡ listAfter (blockOf (now (block .entry))) (runsOf (now (runs .entry)) count) count (now (bins .entry))) ⌝ }
 {
-    if in_order(block, runs, count) {
-        return write_lists(bins, block, runs, count);
-    }
     let cu = block_of(block);
     let given = runs_of(runs, count);
     write_palette_cu(bins, cu, given, count)
+}
+
+// The same. A count that no block has is told apart, so that the records stay out of a call in order.
+fn written(block: &[u16], runs: &[u32], count: usize, bins: &mut [u8]) -> Written
+    ensures { λ r. ⌜ (r ≡ writeOf (blockOf (now (block .entry))) (runsOf (now (runs .entry)) count) count (length (now (bins .entry)))) × (now (bins .exit) ≡ listAfter (blockOf (now (block .entry))) (runsOf (now (runs .entry)) count) count (now (bins .entry))) ⌝ }
+{
+    if 1024 < count {
+        return by_records(block, runs, count, bins);
+    }
+    if in_order(block, runs, count) {
+        return write_lists(bins, block, runs, count);
+    }
+    by_records(block, runs, count, bins)
 }
 
 // The bins of a block and its first `count` runs.
