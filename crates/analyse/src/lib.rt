@@ -1,4 +1,6 @@
 // The palette of a block, from its samples as packed numbers in row order: counting, then choosing.
+#![tactic(auto)]
+
 ghost use Rattle.std.specs.Prelude.{◌≡◌, true, ℕ, ◌≤◌, eqb, length, take};
 ghost use Rattle.base.specs.Pick.{pick};
 ghost use Rattle.colors.specs.Table.{tab, none_above};
@@ -12,7 +14,7 @@ use choose::Painting;
 use colors::ColorIndex;
 
 // 0 and a palette, or 13 and none; and the counter after it.
-#[derive(Drop)]
+#[derive(Clone, Copy)]
 pub struct Analysed {
     pub answer: u32,
     pub painting: Painting,
@@ -20,7 +22,7 @@ pub struct Analysed {
 }
 
 // The same; whether the counter was to be kept; and its generation if not.
-#[derive(Drop)]
+#[derive(Clone, Copy)]
 pub struct Painted {
     pub answer: u32,
     pub kept: bool,

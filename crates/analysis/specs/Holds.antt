@@ -16,7 +16,7 @@ use Rattle.base.specs.Pick.{pick, either, true_false}
 use Rattle.base.specs.Refusals.{refused-late}
 use Rattle.base.specs.Tests.{every, any, both, refusal, up_to-at, at_up_to}
 use Rattle.h265.specs.Reuse.{trues, flagged}
-use Rattle.h265.specs.ReuseLaws.{flagged-map}
+use Rattle.h265.proofs.ReuseLaws.{flagged-map}
 use Rattle.quant.specs.Quant.{y_of, u_of, v_of}
 use Rattle.quant.specs.QuantLaws.{packed-parts}
 use Rattle.model.specs.ConfigLaws.{format_most, depth-most, config_bounds}

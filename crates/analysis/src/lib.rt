@@ -1,4 +1,6 @@
 // Analysis of a block: a palette for its samples, and which predictor entries it reuses.
+#![tactic(auto)]
+
 ghost use Rattle.std.specs.Prelude.{◌≡◌, true, [], ◌∷◌, ◌-◌, ◌*◌, ◌≤◌, leb};
 ghost use Rattle.base.specs.Tests.{refusal};
 ghost use Rattle.colors.specs.Table.{none_above};
@@ -10,7 +12,7 @@ use colors::ColorIndex;
 use model::{PaletteConfig, PaletteCu, PalettePredictor, SourceBlock};
 
 // A refusal's number, 0 where there is none; the block made, blank on a refusal; the counter after the call.
-#[derive(Drop)]
+#[derive(Clone, Copy)]
 pub struct Analyzed {
     pub refusal: u8,
     pub cu: PaletteCu,

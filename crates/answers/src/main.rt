@@ -1,4 +1,6 @@
 // Replays source 000's answers: computes each record of standard input with the port's functions and prints a line for it, held to the file `stdout`. oracle/README.md has both forms.
+#![tactic(auto)]
+
 ghost use Rattle.std.specs.Prelude.{◌≡◌, ◌≤◌, length};
 
 use exports::{
@@ -14,7 +16,8 @@ use exports_put::{
     velomitra_put_bits, velomitra_put_count, velomitra_put_egk, velomitra_put_reuse,
     velomitra_put_run, velomitra_put_tb,
 };
-use libc::STDOUT_FILENO;
+use reading::read_full;
+use std::io;
 
 // A byte as a number.
 fn wide(b: u8) -> u32
@@ -110,26 +113,19 @@ fn letter(b: u8) -> u8 {
 }
 
 // The first n bins of a list as letters.
-fn print_bins(list: &[u8], n: usize) {
-    let mut i = 0;
-    while i < list.len() {
-        if n <= i {
-            return;
-        }
-        let text = [letter(list[i])];
-        io::write_all(STDOUT_FILENO, &text);
-        i += 1;
+fn print_bins(rt: &impl Print, list: &[u8], n: usize) -> io::Result<()> {
+    for bin in list[..n.min(list.len())].iter() {
+        rt.write_all(&[letter(*bin)])?;
     }
+    Ok(())
 }
 
 // Flags as letters.
-fn print_flags(flags: &[bool]) {
-    let mut i = 0;
-    while i < flags.len() {
-        let text = [letter(flags[i] as u8)];
-        io::write_all(STDOUT_FILENO, &text);
-        i += 1;
+fn print_flags(rt: &impl Print, flags: &[bool]) -> io::Result<()> {
+    for flag in flags {
+        rt.write_all(&[letter(*flag as u8)])?;
     }
+    Ok(())
 }
 
 // The flags that a record has from byte 12 on, one bit each.
@@ -137,10 +133,8 @@ fn flags_of(record: &[u8]) -> [bool; 128]
     ensures { 128 ≡ length result }
 {
     let mut flags = [false; 128];
-    let mut k = 0;
-    while k < 128 {
+    for k in 0..128 {
         flags[k] = (byte(record, 12 + k / 8) >> (k % 8)) % 2 == 1;
-        k += 1;
     }
     flags
 }
@@ -175,12 +169,11 @@ fn put(list: &mut [u8], record: &[u8], op: u32, a: u32, b: u32) -> usize {
 }
 
 // The line of a writer.
-fn print_put(record: &[u8], op: u32, a: u32, b: u32) {
+fn print_put(rt: &impl Print, record: &[u8], op: u32, a: u32, b: u32) -> io::Result<()> {
     let mut list = [0u8; 256];
     let next = put(&mut list, record, op, a, b);
-    io::print_decimal(STDOUT_FILENO, next as u64);
-    io::write_all(STDOUT_FILENO, b":");
-    print_bins(&list, next);
+    print!(rt; "{next}:")?;
+    print_bins(rt, &list, next)
 }
 
 // A value read in its code.
@@ -213,16 +206,12 @@ fn get(list: &[u8], at: usize, op: u32, a: u32, b: u32, c: u32, out: &mut [u64])
 }
 
 // Refusal or 0, value and place.
-fn print_three(a: u64, b: u64, c: u64) {
-    io::print_decimal(STDOUT_FILENO, a);
-    io::write_all(STDOUT_FILENO, b" ");
-    io::print_decimal(STDOUT_FILENO, b);
-    io::write_all(STDOUT_FILENO, b" ");
-    io::print_decimal(STDOUT_FILENO, c);
+fn print_three(rt: &impl Print, a: u64, b: u64, c: u64) -> io::Result<()> {
+    print!(rt; "{a} {b} {c}")
 }
 
 // The line of a reader of one value.
-fn print_get(list: &[u8], record: &[u8], op: u32, at: usize) {
+fn print_get(rt: &impl Print, list: &[u8], record: &[u8], op: u32, at: usize) -> io::Result<()> {
     let mut out = [0u64; 3];
     get(
         list,
@@ -233,77 +222,83 @@ fn print_get(list: &[u8], record: &[u8], op: u32, at: usize) {
         word(record, 20),
         &mut out,
     );
-    print_three(out[0], out[1], out[2]);
+    print_three(rt, out[0], out[1], out[2])
 }
 
 // The line of the reader of reuse runs, of as many entries as there are flags.
-fn print_get_flags(list: &[u8], at: usize, limit: u32, flags: &mut [bool]) {
+fn print_get_flags(
+    rt: &impl Print,
+    list: &[u8],
+    at: usize,
+    limit: u32,
+    flags: &mut [bool],
+) -> io::Result<()> {
     let mut out = [0u64; 3];
     velomitra_reuse_at(list, at, limit, flags, &mut out);
-    print_three(out[0], out[1], out[2]);
-    io::write_all(STDOUT_FILENO, b":");
+    print_three(rt, out[0], out[1], out[2])?;
+    print!(rt; ":")?;
     if out[0] == 0 {
-        print_flags(flags);
+        return print_flags(rt, flags);
     }
+    Ok(())
 }
 
 // The same, of `count` entries.
-fn print_counted(list: &[u8], at: usize, limit: u32, count: u32) {
+fn print_counted(
+    rt: &impl Print,
+    list: &[u8],
+    at: usize,
+    limit: u32,
+    count: u32,
+) -> io::Result<()> {
     let mut flags = [false; 128];
     if 128 < count {
-        return;
+        return Ok(());
     }
-    print_get_flags(list, at, limit, &mut flags[..count as usize]);
+    print_get_flags(rt, list, at, limit, &mut flags[..count as usize])
 }
 
 // The line of a reader.
-fn print_read(record: &[u8], op: u32, len: u32, at: u32) {
+fn print_read(rt: &impl Print, record: &[u8], op: u32, len: u32, at: u32) -> io::Result<()> {
     if 32 < len {
-        return;
+        return Ok(());
     }
     if record.len() != 64 {
-        return;
+        return Ok(());
     }
     let list = &record[32..32 + len as usize];
     if op == 39 {
-        print_counted(list, at as usize, word(record, 12), word(record, 16));
-        return;
+        return print_counted(rt, list, at as usize, word(record, 12), word(record, 16));
     }
-    print_get(list, record, op, at as usize);
+    print_get(rt, list, record, op, at as usize)
 }
 
 // The line of a record.
-fn print_line(record: &[u8]) {
+fn print_line(rt: &impl Print, record: &[u8]) -> io::Result<()> {
     let op = word(record, 0);
     let a = word(record, 4);
     let b = word(record, 8);
     if op < 16 {
-        io::print_decimal(
-            STDOUT_FILENO,
-            number(op, a, b, word(record, 12), word(record, 16)),
-        );
+        rt.print(number(op, a, b, word(record, 12), word(record, 16)))?;
     } else if op < 32 {
-        print_put(record, op, a, b);
+        print_put(rt, record, op, a, b)?;
     } else {
-        print_read(record, op, a, b);
+        print_read(rt, record, op, a, b)?;
     }
-    io::write_all(STDOUT_FILENO, b"\n");
+    println!(rt)
 }
 
 // A line for each record.
-fn print_lines(records: &[u8]) {
-    let mut rest = records.len() / 64;
-    let mut at = 0;
-    while 0 < rest {
-        print_line(&records[at..at + 64]);
-        at += 64;
-        rest -= 1;
+fn print_lines(rt: &impl Print, records: &[u8]) -> io::Result<()> {
+    for record in records.chunks_exact(64) {
+        print_line(rt, record)?;
     }
+    Ok(())
 }
 
 // Lines for the records of standard input, at most 1,024 of them.
-fn main() {
-    let mut input = io::large_buffer();
-    let n = io::read_full(0, &mut input);
-    print_lines(&input[..n]);
+fn main(rt: HostRuntime) -> io::Result<()> {
+    let mut input = [0u8; 65536];
+    let n = read_full(&mut rt.stdin(), &mut input)?;
+    print_lines(&rt, &input[..n])
 }

@@ -1,10 +1,13 @@
 // Replays source 000's answers on whole blocks: makes the call of each record of standard input and prints a line for it, held to the file `stdout`. oracle/README.md has both forms.
+#![tactic(auto)]
+
 ghost use Rattle.std.specs.Prelude.{◌≡◌, ◌≤◌, length};
 
 use exports_analysis::{velomitra_analyze_palette, velomitra_analyze_with};
 use exports_block::{velomitra_assign_indices, velomitra_palette_sse};
 use exports_update::velomitra_update;
-use libc::STDOUT_FILENO;
+use reading::read_full;
+use std::io;
 
 // A byte as a number.
 fn wide(b: u8) -> u16
@@ -49,10 +52,8 @@ fn put(list: &mut [u16], i: usize, x: u16) {
 fn copy(record: &[u8], from: usize, n: usize, list: &mut [u16], to: usize)
     requires { (from ≤ 352) × (n ≤ 352) × (to ≤ 4432) }
 {
-    let mut i: usize = 0;
-    while i < n {
+    for i in 0..n {
         put(list, to + i, number(record, from + i));
-        i += 1;
     }
 }
 
@@ -69,10 +70,8 @@ fn block(record: &[u8]) -> [u16; 4432] {
 // A record's configuration.
 fn config(record: &[u8]) -> [i32; 8] {
     let mut list = [0i32; 8];
-    let mut i: usize = 0;
-    while i < 8 {
+    for i in 0..8 {
         list[i] = signed(number(record, 2 + i));
-        i += 1;
     }
     list
 }
@@ -80,10 +79,8 @@ fn config(record: &[u8]) -> [i32; 8] {
 // A record's geometry.
 fn source(record: &[u8]) -> [usize; 7] {
     let mut list = [0usize; 7];
-    let mut i: usize = 0;
-    while i < 7 {
+    for i in 0..7 {
         list[i] = number(record, 10 + i) as usize;
-        i += 1;
     }
     list
 }
@@ -112,9 +109,8 @@ fn predictor(record: &[u8]) -> [u16; 22] {
 }
 
 // A number and a space.
-fn print_number(x: u64) {
-    io::print_decimal(STDOUT_FILENO, x);
-    io::write_all(STDOUT_FILENO, b" ");
+fn print_number(rt: &impl Print, x: u64) -> io::Result<()> {
+    print!(rt; "{x} ")
 }
 
 // The number at a place of a list, 0 past its end.
@@ -126,49 +122,52 @@ fn at(list: &[u16], i: usize) -> u16 {
 }
 
 // n numbers of a list from place `from` on.
-fn print_numbers(list: &[u16], from: usize, n: usize)
+fn print_numbers(rt: &impl Print, list: &[u16], from: usize, n: usize) -> io::Result<()>
     requires { (from ≤ 4432) × (n ≤ 352) }
 {
-    let mut i: usize = 0;
-    while i < n {
-        print_number(at(list, from + i) as u64);
-        i += 1;
+    for i in 0..n {
+        print_number(rt, at(list, from + i) as u64)?;
     }
+    Ok(())
 }
 
 // The parts of a block that records have.
-fn print_block(list: &[u16]) {
-    print_numbers(list, 0, 40);
-    print_numbers(list, 208, 8);
-    print_numbers(list, 336, 16);
-    print_numbers(list, 1360, 48);
+fn print_block(rt: &impl Print, list: &[u16]) -> io::Result<()> {
+    print_numbers(rt, list, 0, 40)?;
+    print_numbers(rt, list, 208, 8)?;
+    print_numbers(rt, list, 336, 16)?;
+    print_numbers(rt, list, 1360, 48)
 }
 
 // The slots that the counter's generation has marked: place, key, entry.
-fn print_slots(keys: [u64; 256], entry: [u16; 256], stamp: [u32; 257]) {
-    print_number(stamp[0] as u64);
-    let mut i: usize = 0;
-    while i < 256 {
+fn print_slots(
+    rt: &impl Print,
+    keys: [u64; 256],
+    entry: [u16; 256],
+    stamp: [u32; 257],
+) -> io::Result<()> {
+    print_number(rt, stamp[0] as u64)?;
+    for i in 0..256 {
         if stamp[1 + i] == stamp[0] {
-            print_number(i as u64);
-            print_number(keys[i]);
-            print_number(entry[i] as u64);
+            print_number(rt, i as u64)?;
+            print_number(rt, keys[i])?;
+            print_number(rt, entry[i] as u64)?;
         }
-        i += 1;
     }
+    Ok(())
 }
 
 // Refusal or 0, and the predictor after it.
-fn print_update(record: &[u8]) {
+fn print_update(rt: &impl Print, record: &[u8]) -> io::Result<()> {
     let cu = block(record);
     let mut list = predictor(record);
     let r = velomitra_update(&mut list, &cu, number(record, 1) as usize);
-    print_number(r as u64);
-    print_numbers(&list, 0, 22);
+    print_number(rt, r as u64)?;
+    print_numbers(rt, &list, 0, 22)
 }
 
 // Refusal or 0, and the block after it.
-fn print_assign(record: &[u8]) {
+fn print_assign(rt: &impl Print, record: &[u8]) -> io::Result<()> {
     let c = config(record);
     let g = source(record);
     let y = luma(record);
@@ -176,12 +175,12 @@ fn print_assign(record: &[u8]) {
     let cr = chroma(record, 152);
     let mut cu = block(record);
     let r = velomitra_assign_indices(&y, &cb, &cr, &c, &g, number(record, 1) == 1, &mut cu);
-    print_number(r as u64);
-    print_block(&cu);
+    print_number(rt, r as u64)?;
+    print_block(rt, &cu)
 }
 
 // Refusal or 0, and the error figure.
-fn print_sse(record: &[u8]) {
+fn print_sse(rt: &impl Print, record: &[u8]) -> io::Result<()> {
     let c = config(record);
     let g = source(record);
     let y = luma(record);
@@ -190,8 +189,8 @@ fn print_sse(record: &[u8]) {
     let cu = block(record);
     let mut figure = [0u64; 1];
     let r = velomitra_palette_sse(&y, &cb, &cr, &c, &g, &cu, &mut figure);
-    print_number(r as u64);
-    print_number(figure[0]);
+    print_number(rt, r as u64)?;
+    print_number(rt, figure[0])
 }
 
 // A counter's stamps: the generation, and that of slot 0.
@@ -224,46 +223,43 @@ fn analyze(
 }
 
 // Refusal or 0, the block after it, and the counter.
-fn print_analyze(record: &[u8]) {
+fn print_analyze(rt: &impl Print, record: &[u8]) -> io::Result<()> {
     let mut keys = [0u64; 256];
     let mut entry = [0u16; 256];
     let mut stamp = stamps(record);
     let mut cu = block(record);
     let r = analyze(record, &mut keys, &mut entry, &mut stamp, &mut cu);
-    print_number(r as u64);
-    print_block(&cu);
-    print_slots(keys, entry, stamp);
+    print_number(rt, r as u64)?;
+    print_block(rt, &cu)?;
+    print_slots(rt, keys, entry, stamp)
 }
 
 // The line of a record.
-fn print_line(record: &[u8]) {
+fn print_line(rt: &impl Print, record: &[u8]) -> io::Result<()> {
     let op = number(record, 0);
     if op == 1 {
-        print_update(record);
+        print_update(rt, record)?;
     } else if op == 2 {
-        print_assign(record);
+        print_assign(rt, record)?;
     } else if op == 3 {
-        print_sse(record);
+        print_sse(rt, record)?;
     } else {
-        print_analyze(record);
+        print_analyze(rt, record)?;
     }
-    io::write_all(STDOUT_FILENO, b"\n");
+    println!(rt)
 }
 
 // A line for each record of 704 bytes.
-fn print_lines(records: &[u8]) {
-    let mut rest = records.len() / 704;
-    let mut at = 0;
-    while 0 < rest {
-        print_line(&records[at..at + 704]);
-        at += 704;
-        rest -= 1;
+fn print_lines(rt: &impl Print, records: &[u8]) -> io::Result<()> {
+    for record in records.chunks_exact(704) {
+        print_line(rt, record)?;
     }
+    Ok(())
 }
 
 // Lines for the records of standard input, at most 93 of them.
-fn main() {
-    let mut input = io::large_buffer();
-    let n = io::read_full(0, &mut input);
-    print_lines(&input[..n]);
+fn main(rt: HostRuntime) -> io::Result<()> {
+    let mut input = [0u8; 65536];
+    let n = read_full(&mut rt.stdin(), &mut input)?;
+    print_lines(&rt, &input[..n])
 }

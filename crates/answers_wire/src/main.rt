@@ -1,9 +1,12 @@
 // Replays reading and writing of whole blocks: reads the bins of each record of standard input, changes a number of the block and one of its runs, writes it, and prints a line of both, held to the file `stdout`. oracle/README.md has both forms.
+#![tactic(auto)]
+
 ghost use Rattle.std.specs.Prelude.{◌≡◌, ◌+◌, ◌≤◌, length};
 
 use exports_read::velomitra_read_palette_cu;
 use exports_write::velomitra_write_palette_cu;
-use libc::STDOUT_FILENO;
+use reading::read_full;
+use std::io;
 
 // A byte as a number.
 fn wide(b: u8) -> usize
@@ -24,38 +27,33 @@ fn predictor(given: &[u8]) -> [u16; 22]
     requires { length given.now ≡ 384 }
 {
     let mut list = [0u16; 22];
-    let mut i: usize = 0;
-    while i < 22 {
+    for i in 0..22 {
         list[i] = pair(given[16 + 2 * i], given[17 + 2 * i]) as u16;
-        i += 1;
     }
     list
 }
 
 // A number and a space.
-fn print_number(x: u64) {
-    io::print_decimal(STDOUT_FILENO, x);
-    io::write_all(STDOUT_FILENO, b" ");
+fn print_number(rt: &impl Print, x: u64) -> io::Result<()> {
+    print!(rt; "{x} ")
 }
 
 // n numbers of a block from place `from` on.
-fn print_part(list: [u16; 4432], from: usize, n: usize)
+fn print_part(rt: &impl Print, list: [u16; 4432], from: usize, n: usize) -> io::Result<()>
     requires { from + n ≤ 4432 }
 {
-    let mut i: usize = 0;
-    while i < n {
-        print_number(list[from + i] as u64);
-        i += 1;
+    for i in 0..n {
+        print_number(rt, list[from + i] as u64)?;
     }
+    Ok(())
 }
 
 // The numbers of sixteen runs.
-fn print_runs(list: [u32; 1024]) {
-    let mut i: usize = 0;
-    while i < 64 {
-        print_number(list[i] as u64);
-        i += 1;
+fn print_runs(rt: &impl Print, list: [u32; 1024]) -> io::Result<()> {
+    for i in 0..64 {
+        print_number(rt, list[i] as u64)?;
     }
+    Ok(())
 }
 
 // A bin as a letter from `a` on.
@@ -67,19 +65,17 @@ fn letter(b: u8) -> u8 {
 }
 
 // The first n bins of a list as letters.
-fn print_bins(list: [u8; 255], n: usize)
+fn print_bins(rt: &impl Print, list: [u8; 255], n: usize) -> io::Result<()>
     requires { n ≤ 255 }
 {
-    let mut i: usize = 0;
-    while i < n {
-        let text = [letter(list[i])];
-        io::write_all(STDOUT_FILENO, &text);
-        i += 1;
+    for i in 0..n {
+        rt.write_all(&[letter(list[i])])?;
     }
+    Ok(())
 }
 
 // What is read: refusal or 0, its place, the number of runs and of bins used.
-fn print_read(given: &[u8], block: &mut [u16], runs: &mut [u32])
+fn print_read(rt: &impl Print, given: &[u8], block: &mut [u16], runs: &mut [u32]) -> io::Result<()>
     requires { length given.now ≡ 384 }
 {
     let known = predictor(given);
@@ -100,18 +96,18 @@ fn print_read(given: &[u8], block: &mut [u16], runs: &mut [u32])
         &mut used,
         &mut place,
     );
-    print_number(r as u64);
-    print_number(place[0] as u64);
-    print_number(count[0] as u64);
-    print_number(used[0] as u64);
+    print_number(rt, r as u64)?;
+    print_number(rt, place[0] as u64)?;
+    print_number(rt, count[0] as u64)?;
+    print_number(rt, used[0] as u64)
 }
 
 // The parts of a block that a line has: head and four entries, four flags, sixteen cells.
-fn print_block(list: [u16; 4432]) {
-    print_part(list, 0, 28);
-    print_part(list, 208, 4);
-    print_part(list, 336, 16);
-    print_part(list, 1360, 48);
+fn print_block(rt: &impl Print, list: [u16; 4432]) -> io::Result<()> {
+    print_part(rt, list, 0, 28)?;
+    print_part(rt, list, 208, 4)?;
+    print_part(rt, list, 336, 16)?;
+    print_part(rt, list, 1360, 48)
 }
 
 // The block with the number that a record changes.
@@ -136,7 +132,12 @@ fn changed_runs(given: &[u8], runs: [u32; 1024]) -> [u32; 1024]
 }
 
 // What is written: refusal or 0, the number of bins, the list.
-fn print_write(given: &[u8], block: [u16; 4432], runs: [u32; 1024])
+fn print_write(
+    rt: &impl Print,
+    given: &[u8],
+    block: [u16; 4432],
+    runs: [u32; 1024],
+) -> io::Result<()>
     requires { length given.now ≡ 384 }
 {
     let cu = changed(given, block);
@@ -146,40 +147,37 @@ fn print_write(given: &[u8], block: [u16; 4432], runs: [u32; 1024])
     let room = wide(given[15]);
     let count = pair(given[7], given[8]);
     let r = velomitra_write_palette_cu(&cu, &list, count, &mut bins[..room], &mut used);
-    print_number(r as u64);
-    print_number(used[0] as u64);
-    print_bins(bins, room);
+    print_number(rt, r as u64)?;
+    print_number(rt, used[0] as u64)?;
+    print_bins(rt, bins, room)
 }
 
 // The line of a record: its name, what is read, and what is written after a change.
-fn print_line(given: &[u8])
+fn print_line(rt: &impl Print, given: &[u8]) -> io::Result<()>
     requires { length given.now ≡ 384 }
 {
     let mut block = [3u16; 4432];
     let mut runs = [3u32; 1024];
     let room = 4 * wide(given[6]);
-    io::write_all(STDOUT_FILENO, &given[320..384]);
-    print_read(given, &mut block, &mut runs[..room]);
-    print_block(block);
-    print_runs(runs);
-    print_write(given, block, runs);
-    io::write_all(STDOUT_FILENO, b"\n");
+    rt.write_all(&given[320..384])?;
+    print_read(rt, given, &mut block, &mut runs[..room])?;
+    print_block(rt, block)?;
+    print_runs(rt, runs)?;
+    print_write(rt, given, block, runs)?;
+    println!(rt)
 }
 
 // A line for each record of 384 bytes.
-fn print_lines(records: &[u8]) {
-    let mut rest = records.len() / 384;
-    let mut at = 0;
-    while 0 < rest {
-        print_line(&records[at..at + 384]);
-        at += 384;
-        rest -= 1;
+fn print_lines(rt: &impl Print, records: &[u8]) -> io::Result<()> {
+    for record in records.chunks_exact(384) {
+        print_line(rt, record)?;
     }
+    Ok(())
 }
 
 // Lines for the records of standard input, at most 170 of them.
-fn main() {
-    let mut input = io::large_buffer();
-    let n = io::read_full(0, &mut input);
-    print_lines(&input[..n]);
+fn main(rt: HostRuntime) -> io::Result<()> {
+    let mut input = [0u8; 65536];
+    let n = read_full(&mut rt.stdin(), &mut input)?;
+    print_lines(&rt, &input[..n])
 }

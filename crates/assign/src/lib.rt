@@ -1,4 +1,6 @@
 // The index of each cell of a block, and how many cells escape.
+#![tactic(auto)]
+
 ghost use Rattle.std.specs.Prelude.{◌≡◌, ℕ, ◌+◌, ◌<◌, ◌≤◌, min, max, eqb, length, get_or};
 ghost use Rattle.base.specs.Pick.{pick};
 ghost use Rattle.base.specs.Cells.{laid};
@@ -8,7 +10,7 @@ ghost use Rattle.assign.specs.Memory.{Cached};
 ghost use Rattle.assign.specs.Keys.{held_of, key_of, Split, Keyed};
 
 // The components of a palette's entries, those past its size as the first's.
-#[derive(Drop)]
+#[derive(Clone, Copy)]
 struct Parts {
     ys: [u16; 64],
     us: [u16; 64],

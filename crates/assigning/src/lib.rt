@@ -1,4 +1,6 @@
 // Assignment of a block's cells to its palette.
+#![tactic(auto)]
+
 ghost use Rattle.std.specs.Prelude.{◌≡◌, true, ℕ, ◌*◌, ◌<◌, ◌≤◌, get_or};
 ghost use Rattle.base.specs.Cells.{laid};
 ghost use Rattle.model.specs.Domain.{config_in};
@@ -11,7 +13,7 @@ ghost use Rattle.assigning.specs.Laws.{map_of};
 use model::{PaletteConfig, PaletteCu, SourceBlock};
 
 // A refusal's number and the block as it came, or 0 and the block made.
-#[derive(Drop)]
+#[derive(Clone, Copy)]
 pub struct Assigned {
     pub refusal: u8,
     pub cu: PaletteCu,

@@ -1,16 +1,18 @@
 // What writers and readers of bins share: a reader's answers, powers and logarithms of two, classes of a run's bins.
+#![tactic(auto)]
+
 ghost use Rattle.std.specs.Prelude.{◌≡◌, ℕ, ◌+◌, ◌*◌, ◌^◌, ◌≤◌, ◌<◌};
 ghost use Rattle.h265.specs.Strings as S;
 
 // A bin and the place after it, or a refusal's number and place.
-#[derive(Drop)]
+#[derive(Clone, Copy)]
 pub enum Bin {
     Is(bool, usize),
     Refused(u8, usize),
 }
 
 // A number and the place after its bins, or a refusal's number and place.
-#[derive(Drop)]
+#[derive(Clone, Copy)]
 pub enum Number {
     Is(u32, usize),
     Refused(u8, usize),

@@ -1,4 +1,6 @@
 // New blocks, and predictors and palettes between records and packed numbers.
+#![tactic(auto)]
+
 ghost use Rattle.std.specs.Prelude.{◌≡◌, map, ◌≤◌};
 ghost use Rattle.entries.specs.Entries.{packed_of};
 ghost use Rattle.model.specs.Blank.{blank_cu};

@@ -1,4 +1,6 @@
 // An index run's reference, whether it may start, and what it sends.
+#![tactic(auto)]
+
 ghost use Rattle.std.specs.Prelude.{◌≡◌, ℕ, ◌≤◌, ◌<◌};
 ghost use Rattle.paths.specs.Cells.{draws_from, sent_from};
 ghost use Rattle.cells.specs.Steps.{reference_in};

@@ -91,11 +91,10 @@ absent k xs (suc i) h =
     let ne : x ≡ k → ⊥ = λ (e : x ≡ k). let q : place_of k (seen (met xs i) x) < length (seen (met xs i) x) = subst (λ (z : ℕ). place_of z (seen (met xs i) x) < length (seen (met xs i) x)) e (seen_has (met xs i) x) in omega arith in
     rw (ne_eqb x k ne) (⊎_elim (λ (l : place_of k (met xs i) < length (met xs i)). absurd (omega (arith, seen-keeps (met xs i) x k l))) (λ (l : length (met xs i) ≤ place_of k (met xs i)). absent k xs i l) (lt_or_le (place_of k (met xs i)) (length (met xs i))))
 
--- a count says how often its colour stands among the samples
-pub counts_true : (xs : List ℕ) (n j : ℕ) → j < length (met xs n) → get_or (counts xs n) j 0 ≡ occurs (get_or (met xs n) j 0) xs n
-unfolding met_by counts occurs
-counts_true xs zero j h = absurd (omega arith)
-counts_true xs (suc i) j h =
+-- a count after one more sample, where each says how often its colour stands among those before
+count_next : (xs : List ℕ) (i j y : ℕ) → ((k : ℕ) → k < length (met xs i) → get_or (counts xs i) k 0 ≡ occurs (get_or (met xs i) k 0) xs i) → j < length (seen (met xs i) (get_or xs i 0)) → y ≡ get_or (seen (met xs i) (get_or xs i 0)) j 0 → get_or (tally (met xs i) (counts xs i) (get_or xs i 0)) j 0 ≡ occurs y xs (suc i)
+unfolding met_by occurs
+count_next xs i j y ih h here =
     let x = get_or xs i 0 in
     let ms = met xs i in
     let cs = counts xs i in
@@ -103,26 +102,38 @@ counts_true xs (suc i) j h =
     ⊎_elim
     (λ (l : place_of x ms < length ms).
     let hj : j < length ms = rw (seen_old ms x l) at h in
-    rw (seen_old ms x l, tally_old ms cs x l)
+    let old : y ≡ get_or ms j 0 = rw (seen_old ms x l) at here in
+    rw (tally_old ms cs x l)
     (⊎_elim
-    (λ (e : j ≡ place_of x ms). rw (e, get_or-set_same cs (place_of x ms) (get_or cs (place_of x ms) 0 + 1) 0 (omega arith), place_at x ms l, eq-eqb x x refl) (add-one (get_or cs (place_of x ms) 0) ∙ ap suc (counts_true xs i (place_of x ms) l ∙ ap (λ (z : ℕ). occurs z xs i) (place_at x ms l))))
+    (λ (e : j ≡ place_of x ms).
+    let is : y ≡ x = old ∙ (ap (λ (z : ℕ). get_or ms z 0) e ∙ place_at x ms l) in
+    rw (is, eq-eqb x x refl, e, get_or-set_same cs (place_of x ms) (get_or cs (place_of x ms) 0 + 1) 0 (omega arith)) (add-one (get_or cs (place_of x ms) 0) ∙ ap suc (ih (place_of x ms) l ∙ ap (λ (z : ℕ). occurs z xs i) (place_at x ms l ∙ sym is))))
     (λ (e : j ≡ place_of x ms → ⊥).
-    let ne : x ≡ get_or ms j 0 → ⊥ = λ (z : x ≡ get_or ms j 0). e (sym (met_distinct itself xs i j hj) ∙ ap (λ (y : ℕ). place_of y ms) (sym z)) in
-    rw (get_or-set_other cs (place_of x ms) j (get_or cs (place_of x ms) 0 + 1) 0 e, ne_eqb x (get_or ms j 0) ne) (counts_true xs i j hj))
+    let ne : x ≡ get_or ms j 0 → ⊥ = λ (z : x ≡ get_or ms j 0). e (sym (met_distinct itself xs i j hj) ∙ ap (λ (w : ℕ). place_of w ms) (sym z)) in
+    rw (old, get_or-set_other cs (place_of x ms) j (get_or cs (place_of x ms) 0 + 1) 0 e, ne_eqb x (get_or ms j 0) ne) (ih j hj ∙ ap (λ (z : ℕ). occurs z xs i) (sym old)))
     (eq_or_ne j (place_of x ms))))
     (λ (l : length ms ≤ place_of x ms).
     let hj : j < length ms + 1 = rw (seen_new ms x l, length-append) at h in
-    rw (seen_new ms x l, tally_new ms cs x l)
+    let new : y ≡ get_or (ms ++ (x ∷ [])) j 0 = rw (seen_new ms x l) at here in
+    rw (tally_new ms cs x l)
     (⊎_elim
     (λ (e : j < length ms).
-    let ne : x ≡ get_or ms j 0 → ⊥ = λ (z : x ≡ get_or ms j 0). let q : place_of x ms ≡ j = ap (λ (y : ℕ). place_of y ms) z ∙ met_distinct itself xs i j e in omega arith in
-    rw (get_or-append cs (1 ∷ []) 0 j (omega arith), get_or-append ms (x ∷ []) 0 j e, ne_eqb x (get_or ms j 0) ne) (counts_true xs i j e))
+    let ne : x ≡ get_or ms j 0 → ⊥ = λ (z : x ≡ get_or ms j 0). let q : place_of x ms ≡ j = ap (λ (w : ℕ). place_of w ms) z ∙ met_distinct itself xs i j e in omega arith in
+    let is : y ≡ get_or ms j 0 = new ∙ get_or-append ms (x ∷ []) 0 j e in
+    rw (is, get_or-append cs (1 ∷ []) 0 j (omega arith), ne_eqb x (get_or ms j 0) ne) (ih j e ∙ ap (λ (z : ℕ). occurs z xs i) (sym is)))
     (λ (e : length ms ≤ j).
     let q : j ≡ length ms = omega arith in
     let p : length ms ≡ length cs = sym n in
-    rw (q, get_or-append_seam ms x [] 0, eq-eqb x x refl, absent x xs i l, p) (get_or-append_seam cs 1 [] 0))
+    let is : y ≡ x = new ∙ (ap (λ (w : ℕ). get_or (ms ++ (x ∷ [])) w 0) q ∙ get_or-append_seam ms x [] 0) in
+    rw (is, eq-eqb x x refl, q, p) (get_or-append_seam cs 1 [] 0 ∙ ap suc (sym (ap (λ (z : ℕ). occurs z xs i) is ∙ absent x xs i l))))
     (lt_or_le j (length ms))))
     (lt_or_le (place_of x ms) (length ms))
+
+-- a count says how often its colour stands among the samples
+pub counts_true : (xs : List ℕ) (n j : ℕ) → j < length (met xs n) → get_or (counts xs n) j 0 ≡ occurs (get_or (met xs n) j 0) xs n
+unfolding met_by counts occurs
+counts_true xs zero j h = absurd (omega arith)
+counts_true xs (suc i) j h = count_next xs i j _ (λ k l. counts_true xs i k l) h refl
 
 -- seen through f there are no more: each colour met is met through f
 through : (f : ℕ → ℕ) (xs : List ℕ) (n k : ℕ) → place_of k (met xs n) < length (met xs n) → place_of (f k) (met_by f xs n) < length (met_by f xs n)

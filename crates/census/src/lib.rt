@@ -1,11 +1,13 @@
 // Counting a block's colours, given as packed numbers in row order.
+#![tactic(auto)]
+
 ghost use Rattle.std.specs.Prelude.{◌≡◌, List, [], ◌∷◌, ℕ, ◌+◌, ◌*◌, ◌<◌, ◌≤◌, get_or, set};
 ghost use Rattle.colors.specs.Table.{tab, Holds};
 ghost use Rattle.census.specs.Census.{census_of, table_to};
 ghost use Rattle.census.specs.Going.{Noted, Run};
 
 // The distinct colours of a block as first met, with their counts; 0 behind them.
-#[derive(Drop)]
+#[derive(Clone, Copy)]
 pub struct Census {
     pub distinct: usize,
     pub met: [u64; 128],

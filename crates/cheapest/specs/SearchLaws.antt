@@ -7,7 +7,7 @@ use Rattle.std.specs.Float.Ieee.{add, lt, of_bits}
 use Rattle.base.specs.Cells.{laid, laid_in}
 use Rattle.base.specs.Pick.{pick, either}
 use Rattle.h265.specs.Scan.{above_at}
-use Rattle.paths.specs.Cells.{index_len, above_len}
+use Rattle.paths.specs.Cells.{index_length, above_length}
 use Rattle.paths.specs.Stretch.{next_stretch}
 use Rattle.paths.specs.Plan.{Price, Job, job, Table, tab, Point, infinite, swept, fresh, trail, runs_of, end_cost, last_kind, planned}
 use Rattle.paths.specs.Sunk.{done_sunk}
@@ -50,11 +50,11 @@ pub each_laid : (f : ℕ → ℕ) (l out : List ℕ) (a n : ℕ) → out ≡ lai
 each_laid f l out a n e h i b c = rw e (laid_in f l a n i 0 b c h)
 
 pub tables_of : (size n : ℕ) (xs above il al ss above₀ il₀ al₀ ss₀ : List ℕ) → n ≤ 1024 → length above₀ ≡ 1024 → length il₀ ≡ 1026 → length al₀ ≡ 1026 → length ss₀ ≡ 1026
-    → above ≡ laid (above_at size xs) above₀ 0 n → il ≡ laid (index_len n xs) il₀ 0 n → al ≡ laid (above_len size n xs) al₀ 0 (n + 1) → ss ≡ laid (next_stretch size n xs) ss₀ 1 n
+    → above ≡ laid (above_at size xs) above₀ 0 n → il ≡ laid (index_length n xs) il₀ 0 n → al ≡ laid (above_length size n xs) al₀ 0 (n + 1) → ss ≡ laid (next_stretch size n xs) ss₀ 1 n
     → Tables size n xs above il al ss
 tables_of size n xs above il al ss above₀ il₀ al₀ ss₀ h a b c d ea eb ec ed = record {
   above_is = λ i l. each_laid (above_at size xs) above₀ above 0 n ea (omega arith) i (omega arith) (omega arith);
-  il_is = λ i l. each_laid (index_len n xs) il₀ il 0 n eb (omega arith) i (omega arith) (omega arith);
-  al_is = λ i l. each_laid (above_len size n xs) al₀ al 0 (n + 1) ec (omega arith) i (omega arith) (omega arith);
+  il_is = λ i l. each_laid (index_length n xs) il₀ il 0 n eb (omega arith) i (omega arith) (omega arith);
+  al_is = λ i l. each_laid (above_length size n xs) al₀ al 0 (n + 1) ec (omega arith) i (omega arith) (omega arith);
   ss_is = λ i k l. each_laid (next_stretch size n xs) ss₀ ss 1 n ed (omega arith) i k (omega arith);
 }

@@ -1,4 +1,6 @@
 // The cheapest path of a block's cells: the tables of the cells and of the sums, the sweep over them, and the runs of the path at its end.
+#![tactic(auto)]
+
 ghost use Rattle.std.specs.Prelude.{◌≡◌, false, ℕ, ◌+◌, ◌*◌, ◌≤◌, ◌<◌, length, replicate};
 ghost use Rattle.finish.specs.Found.{found_of};
 ghost use Rattle.paths.specs.Plan.{job, price_of, fresh, planned};
@@ -39,7 +41,7 @@ fn terms_of(size: usize, n: usize, most: u32, m: RateModel) -> Terms
 }
 
 // What the paths cost that end with an index run and with a copy-above run.
-#[derive(Drop)]
+#[derive(Clone, Copy)]
 pub struct Ends {
     pub index: f32,
     pub above: f32,

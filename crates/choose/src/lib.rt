@@ -1,10 +1,12 @@
 // The palette that the predictor and the representatives make; a colour is a packed number.
+#![tactic(auto)]
+
 ghost use Rattle.std.specs.Prelude.{◌≡◌, List, ◌++◌, ℕ, ◌-◌, ◌<◌, ◌≤◌, length, take, drop};
 ghost use Rattle.choose.specs.Choose.{without, chosen, painting_of};
 ghost use Rattle.choose.specs.Turns.{Offered};
 
 // A palette, its reused entries first, with a flag for each predictor entry; 0 or off behind a count.
-#[derive(Drop)]
+#[derive(Clone, Copy)]
 pub struct Painting {
     pub size: usize,
     pub reused: usize,

@@ -1,9 +1,11 @@
 // The colour counter: 256 slots with linear probing, each marked by the generation that wrote it.
+#![tactic(auto)]
+
 ghost use Rattle.std.specs.Prelude.{◌≡◌, ℕ, ◌+◌, ◌*◌, ◌<◌, ◌≤◌, Bool, true, length};
 ghost use Rattle.colors.specs.Table.{tab, hash_of, slot_of, answer_of, after_of, generation_of, stamps_of, none_above, unused};
 
 // Colours with their numbers: slot s holds one where its stamp is the generation.
-#[derive(Drop)]
+#[derive(Clone, Copy)]
 pub struct ColorIndex {
     pub keys: [u64; 256],
     pub entry: [u16; 256],

@@ -1,4 +1,6 @@
 // At how many places two lists, planes or blocks differ. Blocks are lists of numbers, as crate flat lays them out.
+#![tactic(auto)]
+
 ghost use Rattle.std.specs.Prelude.{◌≡◌, ◌+◌, ◌*◌, ◌≤◌};
 ghost use Rattle.base.specs.Pick.{pick};
 ghost use Rattle.flat.specs.Flat.{number};

@@ -15,7 +15,7 @@ use Rattle.h265.specs.Scan.{above_at}
 use Rattle.h265.specs.ScanLaws.{above_before}
 use Rattle.syntax.specs.Runs.{Run, may_copy}
 use Rattle.syntax.specs.Replay.{reference, less_one, Copies, Draws, Rules, Replays, replay}
-use Rattle.syntax.specs.ReplayLaws.{above-take, rules-replay}
+use Rattle.syntax.proofs.ReplayLaws.{above-take, rules-replay}
 use Rattle.paths.specs.Cells.{copies, draws, sent_from, sent_for}
 use Rattle.paths.specs.CellLaws.{copies-row, copies-same, draws_differs, reference-above, reference-before}
 use Rattle.paths.specs.Plan.{Price, Job, Table, Point, point, slot, infinite, swept, fresh, trail, run_to, runs_of, end_cost, last_kind, planned}

@@ -13,7 +13,7 @@ use borrow.Author.Tests.{eq-eqb, ne_eqb, eqb-true, eqb-false, lt-ltb, le-ltb, lt
 use Rattle.base.specs.Pick.{pick, either, true_false, lt_or_le}
 use Rattle.base.specs.Tests.{every, any}
 use Rattle.syntax.specs.Runs.{may_copy}
-use Rattle.paths.specs.Cells.{copies, index_len, above_len, draws, sent_for, stops_at}
+use Rattle.paths.specs.Cells.{copies, index_length, above_length, draws, sent_for, stops_at}
 use Rattle.paths.specs.CellLaws.{index_le, index-some, above_le, above-yes}
 use Rattle.paths.specs.Plan.{Job, Table, tab, slot, place_of, kind_of, infinite, head_rate, draw_cost, copy_cost, relaxed, stopped, indexed, copied, stepped, swept, fresh}
 use Rattle.paths.specs.Edges.{cost_of}
@@ -36,11 +36,11 @@ better e c p l = pick (lt c e.cost) (entry c p l) e
 
 -- a run is offered from p, after a run of kind l, up to q: a copy-above run goes as far as it can; an index run does, or stops early
 unfoldable pub offers : Job → ℕ → Bool → ℕ → Bool → Bool
-offers j p l q true = every (may_copy j.size p l ∷ copies j.size j.xs p ∷ eqb q (p + above_len j.size j.n j.xs p) ∷ [])
+offers j p l q true = every (may_copy j.size p l ∷ copies j.size j.xs p ∷ eqb q (p + above_length j.size j.n j.xs p) ∷ [])
 offers j p l q false =
     every
     (draws j.size j.xs p l
-    ∷ any (eqb q (p + index_len j.n j.xs p) ∷ every (ltb p q ∷ ltb q (p + index_len j.n j.xs p) ∷ stops_at j.size j.xs p q ∷ []) ∷ []) ∷ [])
+    ∷ any (eqb q (p + index_length j.n j.xs p) ∷ every (ltb p q ∷ ltb q (p + index_length j.n j.xs p) ∷ stops_at j.size j.xs p q ∷ []) ∷ []) ∷ [])
 
 -- the best offer from the slots below s, which cost what the table t says
 unfoldable pub best : Job → Table → ℕ → Bool → ℕ → Entry
@@ -102,7 +102,7 @@ module _ (stop : ℕ → Bool) (g : ℕ → Float) (p : ℕ) (l : Bool) where
 
 module _ (j : Job) (nh : j.n ≤ 1024) (p : ℕ) (l : Bool) (c : Float) (ph : p < j.n) where
   end : ℕ
-  end = p + index_len j.n j.xs p
+  end = p + index_length j.n j.xs p
 
   g : ℕ → Float
   g = draw_cost j p (sent_for j.size j.xs p l) (head_rate j p l c)
@@ -170,23 +170,23 @@ module _ (j : Job) (nh : j.n ≤ 1024) (p : ℕ) (l : Bool) (c : Float) (ph : p 
 
   offers-end : draws j.size j.xs p l ≡ true → offers j p l end false ≡ true
   unfolding offers end
-  offers-end d = rw (d, eq-eqb (p + index_len j.n j.xs p) (p + index_len j.n j.xs p) refl)
+  offers-end d = rw (d, eq-eqb (p + index_length j.n j.xs p) (p + index_length j.n j.xs p) refl)
 
   offers-stop : (x : ℕ) → draws j.size j.xs p l ≡ true → p < x → x < end → offers j p l x false ≡ stops_at j.size j.xs p x
   unfolding offers end
   offers-stop x d a b =
-      let o : x ≡ p + index_len j.n j.xs p → ⊥ = λ e. omega arith in
-      rw (d, ne_eqb x (p + index_len j.n j.xs p) o, lt-ltb p x a, lt-ltb x (p + index_len j.n j.xs p) b) (either (stops_at j.size j.xs p x) (λ s. rw s) (λ s. rw s))
+      let o : x ≡ p + index_length j.n j.xs p → ⊥ = λ e. omega arith in
+      rw (d, ne_eqb x (p + index_length j.n j.xs p) o, lt-ltb p x a, lt-ltb x (p + index_length j.n j.xs p) b) (either (stops_at j.size j.xs p x) (λ s. rw s) (λ s. rw s))
 
   offers-none : (x : ℕ) → (x ≤ p) ⊎ (end < x) → offers j p l x false ≡ false
   unfolding offers end
   offers-none x v =
-      let o : x ≡ p + index_len j.n j.xs p → ⊥ = λ e. ⊎_elim (λ (a : x ≤ p). omega (arith, index-some j.n j.xs p ph)) (λ (a : p + index_len j.n j.xs p < x). omega arith) v in
-      rw (ne_eqb x (p + index_len j.n j.xs p) o)
+      let o : x ≡ p + index_length j.n j.xs p → ⊥ = λ e. ⊎_elim (λ (a : x ≤ p). omega (arith, index-some j.n j.xs p ph)) (λ (a : p + index_length j.n j.xs p < x). omega arith) v in
+      rw (ne_eqb x (p + index_length j.n j.xs p) o)
       (either (draws j.size j.xs p l)
       (λ d. rw d (⊎_elim
       (λ (a : x ≤ p). rw (le-ltb p x a))
-      (λ (a : p + index_len j.n j.xs p < x). let b : p + index_len j.n j.xs p ≤ x = omega arith in rw (le-ltb x (p + index_len j.n j.xs p) b) (either (ltb p x) (λ s. rw s) (λ s. rw s))) v))
+      (λ (a : p + index_length j.n j.xs p < x). let b : p + index_length j.n j.xs p ≤ x = omega arith in rw (le-ltb x (p + index_length j.n j.xs p) b) (either (ltb p x) (λ s. rw s) (λ s. rw s))) v))
       (λ d. rw d))
 
   offers_not : (x : ℕ) → draws j.size j.xs p l ≡ false → offers j p l x false ≡ false
@@ -219,10 +219,10 @@ module _ (j : Job) (nh : j.n ≤ 1024) (p : ℕ) (l : Bool) (c : Float) (ph : p 
       either (may_copy j.size p l)
       (λ m. either (copies j.size j.xs p)
       (λ o.
-      let h : p + above_len j.size j.n j.xs p ≤ 1024 = omega (arith, above_le j.size j.n j.xs p (omega arith)) in
-      rw (m, o) (either (eqb x (p + above_len j.size j.n j.xs p))
-      (λ e. let z : x ≡ p + above_len j.size j.n j.xs p = eqb-true _ _ e in rw (e, z) (relaxed-here t (p + above_len j.size j.n j.xs p) true _ p l w h))
-      (λ e. rw e (relaxed_else t (p + above_len j.size j.n j.xs p) true _ p l x true (apart (p + above_len j.size j.n j.xs p) x true true (eqb-false _ _ e))))))
+      let h : p + above_length j.size j.n j.xs p ≤ 1024 = omega (arith, above_le j.size j.n j.xs p (omega arith)) in
+      rw (m, o) (either (eqb x (p + above_length j.size j.n j.xs p))
+      (λ e. let z : x ≡ p + above_length j.size j.n j.xs p = eqb-true _ _ e in rw (e, z) (relaxed-here t (p + above_length j.size j.n j.xs p) true _ p l w h))
+      (λ e. rw e (relaxed_else t (p + above_length j.size j.n j.xs p) true _ p l x true (apart (p + above_length j.size j.n j.xs p) x true true (eqb-false _ _ e))))))
       (λ o. rw (m, o)))
       (λ m. rw m)
 
@@ -230,7 +230,7 @@ module _ (j : Job) (nh : j.n ≤ 1024) (p : ℕ) (l : Bool) (c : Float) (ph : p 
   unfolding copied
   copied-index t x =
       either (every (may_copy j.size p l ∷ copies j.size j.xs p ∷ []))
-      (λ e. rw e (relaxed_else t (p + above_len j.size j.n j.xs p) true _ p l x false (λ z. omega arith)))
+      (λ e. rw e (relaxed_else t (p + above_length j.size j.n j.xs p) true _ p l x false (λ z. omega arith)))
       (λ e. rw e)
 
   pub both-offers : (t : Table) (x : ℕ) (k : Bool) → Wide t → entry_at (copied j p l c (indexed j p l c t)) x k ≡ pick (offers j p l x k) (better (entry_at t x k) (cost_of j p l c x k) p l) (entry_at t x k)
@@ -244,8 +244,8 @@ module _ (j : Job) (nh : j.n ≤ 1024) (p : ℕ) (l : Bool) (c : Float) (ph : p 
   offers-up x true h =
       either (copies j.size j.xs p)
       (λ o.
-      let d : x ≡ p + above_len j.size j.n j.xs p → ⊥ = λ e. omega (arith, above-yes j.size j.n j.xs p ph o) in
-      rw (o, ne_eqb x (p + above_len j.size j.n j.xs p) d) (either (may_copy j.size p l) (λ m. rw m) (λ m. rw m)))
+      let d : x ≡ p + above_length j.size j.n j.xs p → ⊥ = λ e. omega (arith, above-yes j.size j.n j.xs p ph o) in
+      rw (o, ne_eqb x (p + above_length j.size j.n j.xs p) d) (either (may_copy j.size p l) (λ m. rw m) (λ m. rw m)))
       (λ o. rw o (either (may_copy j.size p l) (λ m. rw m) (λ m. rw m)))
   offers-up x false h = offers-none x (inl h)
 

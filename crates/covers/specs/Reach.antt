@@ -15,7 +15,7 @@ use Rattle.h265.specs.Scan.{above_at}
 use Rattle.sums.specs.Finite.{index_upto}
 use Rattle.syntax.specs.Runs.{may_copy}
 use Rattle.syntax.specs.Replay.{reference}
-use Rattle.paths.specs.Cells.{copies, index_len, above_len, draws, sent_for, stops_at}
+use Rattle.paths.specs.Cells.{copies, index_length, above_length, draws, sent_for, stops_at}
 use Rattle.paths.specs.CellLaws.{copies-row, copies-yes, draws_first, draws-yes, index-some, reference-above, reference-before}
 use Rattle.paths.specs.Plan.{Price, Job, Table, slot, place_of, kind_of, infinite, alphabet_at, flag_rate, head_rate, draw_cost, copy_cost, relaxed, stopped, indexed, copied, stepped, swept, fresh, end_cost, last_kind}
 use Rattle.paths.specs.Edges.{Copy, Draw, Edge, edge_low, edge_high, cost_of, index_edge, copy_edge, stopped-keeps, indexed-keeps, copied-keeps, both_keep}
@@ -167,17 +167,17 @@ module _ (j : Job) (nh : j.n ≤ 1024) (mh : j.most ≤ 64) (m1 : 1 ≤ j.most) 
     by_index : Kept j t₀ → draws j.size j.xs p l ≡ true → Further
     unfolding after indexed
     by_index i d =
-        let s = stopped-keeps j p l (cost_at t₀ p l) ph (Going t₀) going_one d (p + index_len j.n j.xs p - (p + 1)) (p + 1) t₀ (omega arith) (omega (arith, index-some j.n j.xs p ph)) (begun i) in
+        let s = stopped-keeps j p l (cost_at t₀ p l) ph (Going t₀) going_one d (p + index_length j.n j.xs p - (p + 1)) (p + 1) t₀ (omega arith) (omega (arith, index-some j.n j.xs p ph)) (begun i) in
         let e = index_edge j p l ph d in
-        let r = target _ (p + index_len j.n j.xs p) false s e in
-        let g = going_one _ (p + index_len j.n j.xs p) false s e in
+        let r = target _ (p + index_length j.n j.xs p) false s e in
+        let g = going_one _ (p + index_length j.n j.xs p) false s e in
         record {
-          q = p + index_len j.n j.xs p;
+          q = p + index_length j.n j.xs p;
           k = false;
           low = e.low;
           high = e.high;
-          there = rw d (copied-keeps j p l (cost_at t₀ p l) ph (λ t. Going t₀ t × Reached t (p + index_len j.n j.xs p) false)
-              (λ t x y o f. (going_one t x y o.0 f, relaxed-still t x y _ p l o.0.kept.wide (omega (arith, edge_high j p l x y f)) (p + index_len j.n j.xs p) false o.1)) _ (g, r)).1;
+          there = rw d (copied-keeps j p l (cost_at t₀ p l) ph (λ t. Going t₀ t × Reached t (p + index_length j.n j.xs p) false)
+              (λ t x y o f. (going_one t x y o.0 f, relaxed-still t x y _ p l o.0.kept.wide (omega (arith, edge_high j p l x y f)) (p + index_length j.n j.xs p) false o.1)) _ (g, r)).1;
         }
 
     by_copy : Kept j t₀ → may_copy j.size p l ≡ true → copies j.size j.xs p ≡ true → Further
@@ -186,11 +186,11 @@ module _ (j : Job) (nh : j.n ≤ 1024) (mh : j.most ≤ 64) (m1 : 1 ≤ j.most) 
         let s = indexed-keeps j p l (cost_at t₀ p l) ph (Going t₀) going_one t₀ (begun i) in
         let e = copy_edge j p l ph m c in
         record {
-          q = p + above_len j.size j.n j.xs p;
+          q = p + above_length j.size j.n j.xs p;
           k = true;
           low = e.low;
           high = e.high;
-          there = rw (m, c) (target _ (p + above_len j.size j.n j.xs p) true s e);
+          there = rw (m, c) (target _ (p + above_length j.size j.n j.xs p) true s e);
         }
 
     -- from every slot that is reached some run goes on

@@ -1,1 +1,2 @@
 // What holds of the planner's table and of the path that it chooses. Laws only, in specs/.
+#![tactic(auto)]

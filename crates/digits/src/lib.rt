@@ -1,4 +1,6 @@
 // Numbers as decimal text, laid in a lent list of bytes. What would lie past the list's end is counted and not stored.
+#![tactic(auto)]
+
 ghost use Rattle.std.specs.Prelude.{◌+◌, ◌^◌, ◌≤◌, ◌<◌};
 ghost use Rattle.base.specs.Laid.{Laid};
 ghost use Rattle.digits.specs.Decimal.{decimal};

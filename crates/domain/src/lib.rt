@@ -1,4 +1,6 @@
 // Document 01's domain, test by test, over the records of crate model.
+#![tactic(auto)]
+
 ghost use Rattle.std.specs.Prelude.{◌≡◌, ◌*◌, ◌≤◌, min};
 ghost use Rattle.model.specs.Domain.{format_in, depth_in, qp_in, config_in, size_in, even_in, side_in, source_in, planes_in, most, most_chroma, color_in, predictor_in};
 

@@ -1,4 +1,6 @@
 // The index runs that start at one place: the early stops, found by the tables of the cells, and the whole length.
+#![tactic(auto)]
+
 ghost use Rattle.std.specs.Prelude.{◌≡◌, ◌≤◌, ◌<◌};
 ghost use Rattle.std.specs.Float.{binary32};
 ghost use Rattle.std.specs.Float.Ieee.{add};

@@ -1,4 +1,6 @@
 // What the writer and the reader of entries and levels share: the depth of the chroma components, and where a level is sent.
+#![tactic(auto)]
+
 ghost use Rattle.std.specs.Prelude.{◌≡◌, ◌≤◌, eqb};
 ghost use Rattle.base.specs.Pick.{pick};
 ghost use Rattle.due.specs.Due.{due_at};

@@ -1,4 +1,6 @@
 // Colours of the records as packed numbers.
+#![tactic(auto)]
+
 ghost use Rattle.std.specs.Prelude.{◌≡◌, map, length};
 ghost use Rattle.quant.specs.Quant.{packed};
 ghost use Rattle.entries.specs.Entries.{packed_of};

@@ -1,1 +1,2 @@
 // Theorems on the reconstruction of lossless blocks that assignment makes.
+#![tactic(auto)]

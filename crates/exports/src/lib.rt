@@ -1,4 +1,6 @@
 // The leaves for other languages: numbers and lists of numbers, nothing required. Outside a leaf's domain a number is 2^64 - 1.
+#![tactic(auto)]
+
 ghost use Rattle.std.specs.Prelude.{◌≡◌, ◌*◌, ◌%◌, ◌^◌};
 ghost use Rattle.quant.specs.Quant.{tolerance_of, dist};
 ghost use Rattle.exports.specs.Numbers.{scan_pos, scan_pos_inv, place_above, step_out, dequant_out, quantize_out};

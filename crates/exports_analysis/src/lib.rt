@@ -1,4 +1,6 @@
 // Analysis for other languages, nothing required. Blocks, predictors, configurations and geometries are lists of numbers, as crate flat lays them out; the colour counter is three, as crate flatcounter does. Each answers a refusal's number and leaves the block lent to it as it was, or answers 0. The counter moves as document 01 says, on 13 too.
+#![tactic(auto)]
+
 ghost use Rattle.std.specs.Prelude.{◌≡◌};
 ghost use Rattle.flatchoose.specs.Choose.{Lent};
 ghost use Rattle.exports_analysis.specs.Calls.{analyze_out, analyze_with_out};

@@ -1,4 +1,6 @@
 // The calls on whole blocks for other languages, nothing required. Blocks, configurations and geometries are lists of numbers, as crate flat lays them out. Each answers a refusal's number and leaves the memory lent to it as it was, or answers 0.
+#![tactic(auto)]
+
 ghost use Rattle.std.specs.Prelude.{◌≡◌, set};
 ghost use Rattle.exports_block.specs.Calls.{assign_out, sse_out};
 

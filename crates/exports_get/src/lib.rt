@@ -1,4 +1,6 @@
 // The readers of single codes for other languages, nothing required. An answer is three numbers laid at the start of `out`, as far as it reaches: 0, the value and the next place; or a refusal's number, 0 and its place. Outside a reader's domain nothing is laid.
+#![tactic(auto)]
+
 ghost use Rattle.std.specs.Prelude.{◌≡◌, [], ◌∷◌, ◌≤◌, length, take, set};
 ghost use Rattle.std.proofs.lemmas.List.Edits.{sets};
 ghost use Rattle.bins.specs.As.{as_number};
@@ -135,7 +137,7 @@ pub extern "C" fn velomitra_run_at(
 
 // An array's first flags, as many as `to` has.
 fn lay_flags(to: &mut [bool], flags: [bool; 128])
-    requires* { do ⌜ (← ⟦to.len()⟧) ≤ 128 ⌝ }
+    requires { length to.old ≤ 128 }
     ensures { to.new ≡ take (length to.old) flags }
 {
     let mut i = 0;

@@ -1,4 +1,6 @@
 // Planning for other languages, nothing required. A block is a list of numbers, as crate flat lays it out; rates and runs are such lists, as crate flatplan has them. Answers a refusal's number and leaves the memory lent as it was; or answers 0, with the runs from the start of their list, their count and the total in bits at the first places of theirs. A count of 0, with a total of 0, is nothing to code.
+#![tactic(auto)]
+
 ghost use Rattle.std.specs.Prelude.{◌≡◌, true, ◌/◌, ◌≤◌, length, set};
 ghost use Rattle.flat.specs.Flat.{byte, block_of};
 ghost use Rattle.flatready.specs.Ready.{BlockReady};

@@ -1,4 +1,6 @@
 // The writers of single codes for other languages, nothing required. Each lays its bins from place `at` on, as far as the list reaches, and answers the place after them; outside its domain it lays none.
+#![tactic(auto)]
+
 ghost use Rattle.std.specs.Prelude.{◌≡◌, ◌≤◌, length, take};
 ghost use Rattle.base.specs.Laid.{Laid};
 ghost use Rattle.exports_put.specs.Bins.{near, bits_out, tb_out, egk_out, count_out, run_out, reuse_out};

@@ -1,4 +1,6 @@
 // The reader for other languages, nothing required. A predictor and a block are lists of numbers, as crate flat lays them out; runs are such a list, as crate flatplan has them. Answers a refusal's number, with its place at the first place of a list, and leaves the other memory lent as it was; or answers 0, with the block and its runs from the start of their lists, the number of runs and of the bins used at the first places of theirs.
+#![tactic(auto)]
+
 ghost use Rattle.std.specs.Prelude.{◌≡◌};
 ghost use Rattle.exports_read.specs.Calls.{Memory, Lent, laid_read, read_out};
 

@@ -1,4 +1,6 @@
 // Reconstruction for other languages, nothing required. Blocks, configurations and geometries are lists of numbers, as crate flat lays them out. A block in order is laid from its list, any other by way of the record.
+#![tactic(auto)]
+
 ghost use Rattle.std.specs.Prelude.{◌≡◌};
 ghost use Rattle.exports_recon.specs.Calls.{recon_out};
 

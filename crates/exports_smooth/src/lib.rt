@@ -1,4 +1,6 @@
 // Smoothing for other languages, nothing required. Blocks, configurations and geometries are lists of numbers, as crate flat lays them out.
+#![tactic(auto)]
+
 ghost use Rattle.std.specs.Prelude.{◌≡◌, ◌+◌, ◌*◌};
 ghost use Rattle.h265.specs.Strings.{bit};
 ghost use Rattle.exports_smooth.specs.Calls.{smooth_out};

@@ -1,4 +1,6 @@
 // The predictor's update for other languages, nothing required. Predictor and block are lists of numbers, as crate flat lays them out. A call that is in order is answered on the lists; any other by way of the records.
+#![tactic(auto)]
+
 ghost use Rattle.std.specs.Prelude.{◌≡◌};
 ghost use Rattle.exports_update.specs.Calls.{update_out};
 

@@ -1,4 +1,6 @@
 // The writer for other languages, nothing required. A block is a list of numbers, as crate flat lays it out; runs are such a list, as crate flatplan has them. A call in order is written from the lists themselves, any other by way of the records. Answers a refusal's number and leaves the memory lent as it was; or answers 0, with the bins from the start of their list and their number at the first place of its own.
+#![tactic(auto)]
+
 ghost use Rattle.std.specs.Prelude.{◌≡◌, true, length};
 ghost use Rattle.flat.specs.Flat.{block_of};
 ghost use Rattle.flatplan.specs.Flat.{runs_of};

@@ -1,1 +1,2 @@
 // Theorems on the blocks that analysis makes and assignment accepts.
+#![tactic(auto)]

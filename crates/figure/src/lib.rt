@@ -1,4 +1,6 @@
 // The samples of a block in scan order, and its error figure.
+#![tactic(auto)]
+
 ghost use Rattle.std.specs.Prelude.{◌≡◌, Bool, true, false, ℕ, ◌+◌, ◌*◌, ◌%◌, ◌<◌, ◌≤◌, eqb, length, get_or};
 ghost use Rattle.base.specs.Pick.{pick};
 ghost use Rattle.base.specs.Cells.{laid};

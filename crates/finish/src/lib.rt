@@ -1,4 +1,6 @@
 // The end of planning: the cheaper of the two ends, and the runs of the path to it.
+#![tactic(auto)]
+
 ghost use Rattle.std.specs.Prelude.{◌≡◌, Bool, true, false, ℕ, ◌≤◌, ◌<◌};
 ghost use Rattle.std.specs.Float.Ieee.{lt};
 ghost use Rattle.base.specs.Pick.{pick};
@@ -10,7 +12,7 @@ use model::PaletteRun;
 use walk::{lay, runs_of};
 
 // A count of runs, the total in bits, and the runs.
-#[derive(Drop)]
+#[derive(Clone, Copy)]
 pub struct Found {
     pub count: usize,
     pub total: f32,

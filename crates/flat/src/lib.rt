@@ -4,6 +4,8 @@
 // A predictor has 385: 0 size; from 1 the entries, three to each.
 // A configuration has 8: components, format, two depths, three QPs, lossless.
 // A geometry has 7: luma width and height, chroma width and height, the block's column, row and size.
+#![tactic(auto)]
+
 ghost use Rattle.std.specs.Prelude.{◌≡◌, false, [], ◌∷◌, map, ◌+◌, ◌*◌, ◌≤◌, min, eqb, length, get_or};
 ghost use Rattle.std.proofs.lemmas.List.Edits.{sets};
 ghost use Rattle.base.specs.Laid.{Laid};

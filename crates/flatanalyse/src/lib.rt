@@ -1,4 +1,6 @@
 // Analysis of a block's colours on lists of numbers, as crates flat and flatcounter lay them out.
+#![tactic(auto)]
+
 ghost use Rattle.std.specs.Prelude.{◌≡◌, true, [], ◌∷◌, ◌≤◌, length};
 ghost use Rattle.base.specs.Pick.{pick};
 ghost use Rattle.base.specs.Tests.{every};

@@ -1,4 +1,6 @@
 // Assignment in the list of numbers that a block is, where the list is whole.
+#![tactic(auto)]
+
 ghost use Rattle.std.specs.Prelude.{◌≡◌, true, ℕ, ◌*◌, ◌<◌, ◌≤◌, eqb, length, get_or};
 ghost use Rattle.base.specs.Cells.{laid};
 ghost use Rattle.base.specs.Pick.{pick};

@@ -1,4 +1,4 @@
--- Choosing on lists: what was found is laid as analysis' answer is; a refusal by the luma pre_check_lem leaves all that was lent as it was.
+-- Choosing on lists: what was found is laid as analysis' answer is; a refusal by the luma pre-check leaves all that was lent as it was.
 use Rattle.std.specs.Prelude.{◌≡◌, refl, true, false, List, ◌∷◌, ℕ, ◌+◌, ◌-◌, ◌*◌, ◌≤◌, eqb, length, replicate}
 use Rattle.std.proofs.Common.{ap, ◌∙◌, arith, ne_eqb, eqb-true}
 use Rattle.std.proofs.lemmas.Bool.{eqb-false}
@@ -55,7 +55,7 @@ module _ (xs : List ℕ) (c : PaletteConfig) (size : ℕ) (p : PalettePredictor)
     unfolding counter_of
     known = v ∙ rw first
 
-    -- the luma pre_check_lem refuses
+    -- the luma pre-check refuses
     pub kept_out : d.kept ≡ true → (13, l) ≡ choose_out xs c size p tol l
     kept_out h =
         let is = painted-kept k xs (size * size) (c.bd_luma - 8) tol 64 (entries_of p) d known h in

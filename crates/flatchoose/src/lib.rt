@@ -1,4 +1,6 @@
 // The palette of a block's colours, the block laid in a list of numbers and the colour counter in three, as crates flat and flatcounter lay them out.
+#![tactic(auto)]
+
 ghost use Rattle.std.specs.Prelude.{◌≡◌, true, ◌∷◌, ◌+◌, ◌*◌, ◌-◌, ◌≤◌, length};
 ghost use Rattle.std.proofs.lemmas.List.Edits.{sets};
 ghost use Rattle.model.specs.Domain.{depth_in};

@@ -1,4 +1,6 @@
 // The colour counter as lists of numbers, for callers that have no records: 256 keys; 256 entries; the generation, then 256 stamps. A list may have any length: a number that is missing reads as 0, and what would lie past the end is not laid.
+#![tactic(auto)]
+
 ghost use Rattle.std.specs.Prelude.{◌≡◌, ◌∷◌, ◌+◌, ◌≤◌, min, length};
 ghost use Rattle.std.proofs.lemmas.List.Edits.{sets};
 ghost use Rattle.flat.specs.Flat.{number, each};

@@ -1,4 +1,6 @@
 // The block that analysis makes, laid in a list of numbers as crate flat has them, without its record.
+#![tactic(auto)]
+
 ghost use Rattle.std.specs.Prelude.{◌≡◌, ◌++◌, map, ◌≤◌, min, length, replicate};
 ghost use Rattle.std.proofs.lemmas.List.Edits.{sets};
 ghost use Rattle.h265.specs.Strings.{bit};

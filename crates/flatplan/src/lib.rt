@@ -2,6 +2,8 @@
 //
 // Rates are eighteen: those of the run type's bins 0 and 1, then of each run-prefix context's bins 0 and 1.
 // A run has four numbers: 1 where it copies from above, any other where not; the index sent; its further cells; its start.
+#![tactic(auto)]
+
 ghost use Rattle.std.specs.Prelude.{◌≡◌, [], ◌∷◌, ◌+◌, ◌*◌, ◌≤◌, min, length, take, set};
 ghost use Rattle.std.proofs.lemmas.List.Edits.{sets};
 ghost use Rattle.base.specs.Laid.{Laid};

@@ -11,7 +11,7 @@ use Rattle.base.specs.Cells.{laid-length}
 use Rattle.base.specs.Pick.{pick, either, true_false, lt_or_le}
 use Rattle.base.specs.Tests.{every, any, both, ands, ands-every, and_pick, up_to, up_to-at, at_up_to}
 use Rattle.h265.specs.Reuse.{trues}
-use Rattle.h265.specs.ReuseLaws.{trues-at, trues-end}
+use Rattle.h265.proofs.ReuseLaws.{trues-at, trues-end}
 use Rattle.h265.specs.Strings.{bit}
 use Rattle.flat.specs.Flat.{number, byte, each, color_at, levels_at, block_of, predictor_of}
 use Rattle.flat.specs.FlatLaws.{each_at_lem}

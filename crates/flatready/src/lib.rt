@@ -1,4 +1,6 @@
 // Whether a block holds together, and whether an update refuses nothing, seen from the lists of numbers without making the records: quick tests that may say no of what is in order, never yes of what is not.
+#![tactic(auto)]
+
 ghost use Rattle.std.specs.Prelude.{◌≡◌, true, ℕ, ◌+◌, ◌-◌, ◌*◌, ◌≤◌, ◌<◌, min, leb, length, take};
 ghost use Rattle.base.specs.Pick.{pick};
 ghost use Rattle.base.specs.Tests.{up_to};

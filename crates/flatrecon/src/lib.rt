@@ -1,4 +1,6 @@
 // Reconstruction from the list of numbers that crate flat lays a block out as, for a block that is known to hold together: no record is made.
+#![tactic(auto)]
+
 ghost use Rattle.std.specs.Prelude.{◌≡◌, true, not, [], ◌∷◌, ◌+◌, ◌*◌, ◌≤◌, ◌<◌, min, eqb, length, get_or, replicate};
 ghost use Rattle.base.specs.Cells.{laid};
 ghost use Rattle.base.specs.Tests.{every, up_to};

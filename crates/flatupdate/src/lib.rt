@@ -1,4 +1,6 @@
 // The predictor's update on the list of numbers that crate flat lays it out as, of a call in order.
+#![tactic(auto)]
+
 ghost use Rattle.std.specs.Prelude.{◌≡◌, ◌+◌, ◌*◌, ◌-◌, ◌≤◌, ◌<◌, min, length, take, drop, set, replicate};
 ghost use Rattle.std.proofs.lemmas.List.Edits.{sets};
 ghost use Rattle.flat.specs.Flat.{flat_predictor};

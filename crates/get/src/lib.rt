@@ -1,4 +1,6 @@
 // Readers of one bin and of the QP marker from a list of bins.
+#![tactic(auto)]
+
 ghost use Rattle.std.specs.Prelude.{◌≡◌};
 ghost use Rattle.h265.specs.Parse.{bin_at, marker_at};
 ghost use Rattle.bins.specs.As.{as_bool};
@@ -7,7 +9,7 @@ ghost use Rattle.get.specs.As.{as_next};
 use bins::Bin;
 
 // The place after what was read, or a refusal's number and place.
-#[derive(Drop)]
+#[derive(Clone, Copy)]
 pub enum Next {
     At(usize),
     Refused(u8, usize),

@@ -1,4 +1,6 @@
 // Readers of fixed-length values and of truncated binary from a list of bins.
+#![tactic(auto)]
+
 ghost use Rattle.std.specs.Prelude.{◌≡◌, ◌+◌, ◌*◌, ◌≤◌, ◌<◌};
 ghost use Rattle.h265.specs.Parse.{bits_at, tb_at};
 ghost use Rattle.h265.specs.Strings.{bit};

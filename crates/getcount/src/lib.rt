@@ -1,4 +1,6 @@
 // Reader of the number of index runs from a list of bins.
+#![tactic(auto)]
+
 ghost use Rattle.std.specs.Prelude.{◌≡◌, ◌≤◌};
 ghost use Rattle.h265.specs.Parse.{rice_at, count_at};
 ghost use Rattle.bins.specs.As.{as_number};

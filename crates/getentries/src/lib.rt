@@ -1,4 +1,6 @@
 // The reader of palette entries from a list of bins, component by component.
+#![tactic(auto)]
+
 ghost use Rattle.std.specs.Prelude.{◌≡◌, [], ◌≤◌, ◌<◌, take, replicate};
 ghost use Rattle.base.specs.Codes.{each_at};
 ghost use Rattle.get.specs.declared.Next.TheVariants as N;
@@ -12,14 +14,14 @@ use get::Next;
 use getbits::bits_at;
 
 // The place after the values, or a refusal; and the values.
-#[derive(Drop)]
+#[derive(Clone, Copy)]
 pub struct NumbersRead {
     pub next: Next,
     pub values: [u16; 64],
 }
 
 // The place after the entries, or a refusal; and their components.
-#[derive(Drop)]
+#[derive(Clone, Copy)]
 pub struct EntriesRead {
     pub next: Next,
     pub y: [u16; 64],

@@ -1,4 +1,6 @@
 // The reader of the escape levels from a list of bins, component by component.
+#![tactic(auto)]
+
 ghost use Rattle.std.specs.Prelude.{◌≡◌, false, ◌≤◌, ◌<◌, take};
 ghost use Rattle.base.specs.Codes.{each_at};
 ghost use Rattle.base.specs.Pick.{pick};
@@ -16,14 +18,14 @@ use getbits::bits_at;
 use getgolomb::held_egk_at;
 
 // The place after a component's levels, or a refusal; and the levels.
-#[derive(Drop)]
+#[derive(Clone, Copy)]
 pub struct ColumnRead {
     pub next: Next,
     pub values: [u16; 1024],
 }
 
 // The place after the levels, or a refusal; and the levels of each component.
-#[derive(Drop)]
+#[derive(Clone, Copy)]
 pub struct LevelsRead {
     pub next: Next,
     pub y: [u16; 1024],

@@ -1,4 +1,6 @@
 // Readers of Exp-Golomb values from a list of bins.
+#![tactic(auto)]
+
 ghost use Rattle.std.specs.Prelude.{◌≡◌, ◌≤◌};
 ghost use Rattle.h265.specs.Parse.{egk_at, held};
 ghost use Rattle.bins.specs.As.{as_number};

@@ -1,4 +1,6 @@
 // The reader of the index map from a list of bins: the indices sent into an array, the flags, then the runs.
+#![tactic(auto)]
+
 ghost use Rattle.std.specs.Prelude.{◌≡◌, ◌+◌, ◌-◌, ◌≤◌, ◌<◌, length, take};
 ghost use Rattle.base.specs.Answer.{Refused};
 ghost use Rattle.base.specs.Codes.{each_at, when_at};
@@ -18,7 +20,7 @@ use model::PaletteRun;
 use runstate::alphabet;
 
 // The place after the indices, or a refusal; and the first `count` indices sent.
-#[derive(Drop)]
+#[derive(Clone, Copy)]
 pub struct IndicesRead {
     pub next: Next,
     pub count: u32,
@@ -26,14 +28,14 @@ pub struct IndicesRead {
 }
 
 // Final-run flag, transpose flag and the place after them, or a refusal.
-#[derive(Drop)]
+#[derive(Clone, Copy)]
 pub enum Heads {
     Are(bool, bool, usize),
     Refused(u8, usize),
 }
 
 // The place after the map, or a refusal; the transpose flag and the first `count` runs.
-#[derive(Drop)]
+#[derive(Clone, Copy)]
 pub struct MapRead {
     pub next: Next,
     pub turned: bool,

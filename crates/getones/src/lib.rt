@@ -1,4 +1,6 @@
 // Readers of an Exp-Golomb prefix and of what follows it from a list of bins.
+#![tactic(auto)]
+
 ghost use Rattle.std.specs.Prelude.{◌≡◌, ◌≤◌, ◌<◌};
 ghost use Rattle.h265.specs.Parse.{bits_at, ones_from, unary_at};
 ghost use Rattle.h265.specs.Strings.{bypass};

@@ -15,7 +15,7 @@ use Rattle.h265.specs.Parse.{bin_at}
 use Rattle.h265.specs.Reuse.{trues, reuse_at}
 use Rattle.model.specs.Domain.{no_color}
 use Rattle.syntax.specs.Block.{Entry, Call, Palette, colours, entries, chosen, signalled_at, entries_at, palette_at}
-use Rattle.syntax.specs.PaletteLaws.{signalled_code, entries_code}
+use Rattle.syntax.proofs.PaletteLaws.{signalled_code, entries_code}
 use Rattle.getpalette.specs.declared.PaletteRead.{PaletteRead}
 
 -- a refusal stands beside a blank palette

@@ -1,4 +1,6 @@
 // The reader of a block's palette from a list of bins: reuse runs, signalled entries and the escape flag.
+#![tactic(auto)]
+
 ghost use Rattle.std.specs.Prelude.{◌≡◌, true, false, ◌++◌, ◌+◌, ◌-◌, ◌≤◌, ◌<◌, ltb, length, take, drop, replicate};
 ghost use Rattle.base.specs.Codes.{when_at};
 ghost use Rattle.base.specs.Lists.{padded};
@@ -18,7 +20,7 @@ use getreuse::reuse_at;
 use model::Color;
 
 // The place after the palette, or a refusal; flags, signalled entries, entries and the escape flag.
-#[derive(Drop)]
+#[derive(Clone, Copy)]
 pub struct PaletteRead {
     pub next: Next,
     pub flags: [bool; 128],

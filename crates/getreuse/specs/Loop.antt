@@ -12,7 +12,7 @@ use Rattle.std.proofs.lemmas.List.{replicate-append-replicate, set_at}
 use Rattle.base.specs.Answer.{Answer, Value, Refused}
 use Rattle.base.specs.Prepend.{prepend, prepend-none, prepend-more}
 use Rattle.h265.specs.Reuse.{trues, gap_of, reuse_at}
-use Rattle.h265.specs.ReuseLaws.{trues-none, trues-append}
+use Rattle.h265.proofs.ReuseLaws.{trues-none, trues-append}
 use Rattle.h265.specs.Parse.{egk_at}
 use Rattle.h265.specs.ReuseTurns.{reuse_turn}
 use Rattle.bins.specs.declared.Number.TheVariants as N

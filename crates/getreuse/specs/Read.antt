@@ -6,7 +6,7 @@ use Rattle.std.proofs.Math.ListN.{length, take}
 use Rattle.std.proofs.Math.Seq.{take_at}
 use Rattle.base.specs.Answer.{Answer, Value, Refused}
 use Rattle.h265.specs.Reuse.{trues, reuse_at}
-use Rattle.h265.specs.ReuseLaws.{reuse_code}
+use Rattle.h265.proofs.ReuseLaws.{reuse_code}
 use Rattle.bins.specs.declared.Number.{Number}
 use Rattle.bins.specs.declared.Number.TheVariants as N
 use Rattle.getreuse.specs.declared.ReuseRead.{ReuseRead}

@@ -1,4 +1,6 @@
 // Reader of the reuse runs from a list of bins: which predictor entries the palette takes.
+#![tactic(auto)]
+
 ghost use Rattle.std.specs.Prelude.{◌≡◌, ◌≤◌};
 ghost use Rattle.base.specs.Answer.{Refused};
 ghost use Rattle.h265.specs.Reuse.{gap_of, reuse_at};
@@ -8,7 +10,7 @@ use bins::Number;
 use getgolomb::egk_at;
 
 // Flags of the predictor's entries, with the number of those reused and the place after the runs, or a refusal.
-#[derive(Drop)]
+#[derive(Clone, Copy)]
 pub struct ReuseRead {
     pub got: Number,
     pub flags: [bool; 128],

@@ -1,4 +1,6 @@
 // Reader of a run's length from a list of bins: palette_run_prefix and palette_run_suffix.
+#![tactic(auto)]
+
 ghost use Rattle.std.specs.Prelude.{◌≡◌, ◌+◌, ◌≤◌};
 ghost use Rattle.h265.specs.Parse.{unary_at, suffix_at, run_at};
 ghost use Rattle.h265.specs.Strings as S;

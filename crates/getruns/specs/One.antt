@@ -13,7 +13,7 @@ use borrow.Author.Tests.{le-leb, lt-leb, lt-ltb, le-ltb, ltb-false, eq-eqb, ne_e
 use Rattle.base.specs.Pick.{pick, either}
 use Rattle.base.specs.Answer.{Answer, Value, Refused, onward, went, refused_not, same-value, same_place}
 use Rattle.base.specs.Prepend.{prepend, prepend-more}
-use Rattle.h265.specs.RunLaws.{run_code}
+use Rattle.h265.proofs.RunLaws.{run_code}
 use Rattle.syntax.specs.Records.{no_run}
 use Rattle.getruns.specs.As.{RestBlank}
 use Rattle.syntax.specs.Runs.{Run, kind_at, next_sent, more_at, runs_at, is_last, reserved}

@@ -1,4 +1,6 @@
 // The reader of a block's runs from a list of bins: kinds and lengths from the bins, the indices sent from an array, the runs into an array.
+#![tactic(auto)]
+
 ghost use Rattle.std.specs.Prelude.{◌≡◌, false, ◌+◌, ◌-◌, ◌≤◌, ◌<◌, take, replicate};
 ghost use Rattle.bins.specs.As.{as_bool, as_number};
 ghost use Rattle.syntax.specs.Records.{no_run};
@@ -13,14 +15,14 @@ use model::PaletteRun;
 use runstate::{bit_of, is_last, used_after, wide};
 
 // A run and the place after it, or a refusal's number and place.
-#[derive(Drop)]
+#[derive(Clone, Copy)]
 pub enum Step {
     Is(PaletteRun, usize),
     Refused(u8, usize),
 }
 
 // The place after the runs, or a refusal's number and place; and the first `count` runs.
-#[derive(Drop)]
+#[derive(Clone, Copy)]
 pub struct RunsRead {
     pub next: Next,
     pub count: usize,

@@ -4,9 +4,7 @@ pub mod Parse
 pub mod BitLaws
 pub mod UnaryLaws
 pub mod EgkLaws
-pub mod TbLaws
 pub mod RiceLaws
-pub mod RunLaws
 pub mod Turns
 pub mod Reuse
 pub mod ReuseLaws

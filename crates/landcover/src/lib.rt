@@ -1,10 +1,12 @@
 // A small land-cover map, in several formats and depths, and the blocks of it that are coded.
+#![tactic(auto)]
+
 ghost use Rattle.std.specs.Prelude.{◌≡◌, ◌≤◌, ◌<◌, min, eqb, get_or};
 ghost use Rattle.base.specs.Pick.{pick};
 ghost use Rattle.landcover.specs.Map.{cover_of, cover_at, sample_of, plane_of, depth_of, side_of, settings, spot_of, geometry_of};
 
 // What is fixed for a series of blocks.
-#[derive(Drop)]
+#[derive(Clone, Copy)]
 pub struct Series {
     pub format: u8,
     pub deep: bool,

@@ -1,4 +1,6 @@
 // The layout of the file that `list` reads: nine little-endian numbers of 32 bits, the predictor's entries as three of 16 bits each, then bins.
+#![tactic(auto)]
+
 ghost use Rattle.std.specs.Prelude.{◌≡◌, ◌+◌, ◌≤◌, ◌<◌, min, get_or};
 ghost use Rattle.layout.specs.Layout.{half_at, word_at, entry_at, laid_out, array_of};
 

@@ -1,4 +1,6 @@
 // What a run's length costs: the prefix from the tables of sums, and the suffix on top of it.
+#![tactic(auto)]
+
 ghost use Rattle.std.specs.Prelude.{◌≡◌, ◌≤◌, ◌<◌};
 ghost use Rattle.h265.specs.Strings.{prefix_of};
 ghost use Rattle.rates.specs.Rates.{run_rate};

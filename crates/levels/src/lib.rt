@@ -1,4 +1,6 @@
 // Escape levels of a block's cells, and what cells decode to.
+#![tactic(auto)]
+
 ghost use Rattle.std.specs.Prelude.{◌≡◌, Bool, true, false, ℕ, ◌<◌, ◌≤◌, pos, length, get_or};
 ghost use Rattle.base.specs.Pick.{pick};
 ghost use Rattle.base.specs.Cells.{laid};
@@ -12,7 +14,7 @@ ghost use Rattle.levels.specs.Laws.{Fit, Small};
 use model::{Levels, PaletteConfig};
 
 // How escapes are scaled: the steps, the greatest samples, and whether chroma is in use.
-#[derive(Drop)]
+#[derive(Clone, Copy)]
 pub struct Scale {
     pub lossless: bool,
     pub chroma: bool,

@@ -1,4 +1,6 @@
 // The lines of a listing, laid in a lent list of bytes. What would lie past the list's end is counted and not stored.
+#![tactic(auto)]
+
 ghost use Rattle.std.specs.Prelude.{◌++◌, ◌+◌, ◌^◌, ◌≤◌, ◌<◌, length, take};
 ghost use Rattle.base.specs.Laid.{Laid};
 ghost use Rattle.digits.specs.Decimal.{decimal};

@@ -1,8 +1,11 @@
 // Prints the listing of the palette file on standard input: all that is said of it is proved in crate listing.
+#![tactic(auto)]
+
 ghost use Rattle.std.specs.Prelude.{◌≡◌, length};
 
-use libc::STDOUT_FILENO;
 use listing::listing;
+use reading::read_full;
+use std::io;
 
 // Room for a file, and for one byte more, by which a longer one is known.
 fn file_room() -> [u8; 65537]
@@ -19,10 +22,10 @@ fn listing_room() -> [u8; 70800]
 }
 
 // Reads, and writes.
-fn main() {
+fn main(rt: HostRuntime) -> io::Result<()> {
     let mut file = file_room();
     let mut out = listing_room();
-    let n = io::read_full(0, &mut file);
+    let n = read_full(&mut rt.stdin(), &mut file)?;
     let m = listing(&file[..n], &mut out);
-    io::write_all(STDOUT_FILENO, &out[..m]);
+    rt.write_all(&out[..m])
 }

@@ -4,7 +4,8 @@ use Rattle.std.proofs.Common.{ap, sym, arith, length-append, take_at}
 use Rattle.base.specs.Answer.{Value}
 use Rattle.h265.specs.Reuse.{trues}
 use Rattle.syntax.specs.Block.{Call, Map, Told, colours, chosen, palette_of, block_bins}
-use Rattle.syntax.specs.BlockLaws.{ToldOk, length-chosen, block_code}
+use Rattle.syntax.specs.BlockLaws.{ToldOk}
+use Rattle.syntax.proofs.BlockLaws.{length-chosen, block_code}
 use Rattle.syntax.specs.Runs.{Keeps}
 use Rattle.syntax.specs.Whole.{top_index}
 use Rattle.read.specs.Reading.{call_with}

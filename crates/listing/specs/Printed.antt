@@ -5,7 +5,7 @@ use Rattle.base.specs.Answer.{Answer, Value, Refused}
 use Rattle.base.specs.Lists.{padded-take}
 use Rattle.base.specs.Pick.{pick, lt_or_le}
 use Rattle.syntax.specs.Block.{Call, Map, Told, max_index, palette_of, read_block}
-use Rattle.syntax.specs.BlockLaws.{block_code}
+use Rattle.syntax.proofs.BlockLaws.{block_code}
 use Rattle.syntax.specs.PaletteLaws.{CallOk}
 use Rattle.syntax.specs.Records.{no_run}
 use Rattle.syntax.specs.Runs.{Run, Keeps}

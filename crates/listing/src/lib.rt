@@ -1,4 +1,6 @@
 // What the program `list` prints of a file: the listing of its block, or the refusal.
+#![tactic(auto)]
+
 ghost use Rattle.std.specs.Prelude.{true, ◌≡◌, ◌≤◌};
 ghost use Rattle.base.specs.Laid.{Laid};
 ghost use Rattle.layout.specs.Layout.{laid_out};

@@ -1,4 +1,4 @@
--- The laws of the pre_check_lem: its flags count the values met, and it never changes the answer.
+-- The laws of the pre-check: its flags count the values met, and it never changes the answer.
 use Rattle.std.specs.Prelude.{Bool, true, false, List, [], ◌∷◌, ◌++◌, ◌≡◌, refl, ℕ, ◌+◌, ◌-◌, ◌*◌, ◌/◌, ◌≤◌, ◌<◌, min, ltb, length, get_or, set, replicate}
 use Rattle.std.proofs.Common.{⊎_elim, sym, ◌∙◌, arith, lt-ltb, le-ltb, length-set, length-append, get_or-set_same, get_or-set_other}
 use Rattle.std.proofs.lemmas.List.{get_or-replicate}
@@ -51,7 +51,7 @@ exceeds f xs i n limit d l e h =
 pub flags-turn : (f : ℕ → ℕ) (xs : List ℕ) (i : ℕ) {d : ℕ} {bs₀ bs : List Bool} {v r : ℕ} → Flags bs₀ d (met_by f xs i) → v ≡ f (get_or xs i 0) → v < 256 → Marked bs₀ bs v d r → Flags bs r (met_by f xs (i + 1))
 flags-turn f xs i {d} {bs₀} {bs} {v} {r} w e l m = rw (met_next f xs i, ← e) (flags-more bs₀ d (met_by f xs i) w bs v r l m)
 
--- the pre_check_lem never changes the answer: where it refuses, the count refuses
+-- the pre-check never changes the answer: where it refuses, the count refuses
 pub pre_check_lem : (f : ℕ → ℕ) (xs : List ℕ) (n : ℕ) → min (n / 2) 128 < length (met_by f xs n) → too_many (length (met xs n)) n ≡ true
 unfolding too_many
 pre_check_lem f xs n h =

@@ -1,4 +1,4 @@
--- The luma value that the pre_check_lem looks at, and its flags on their way.
+-- The luma value that the pre-check looks at, and its flags on their way.
 use Rattle.std.specs.Prelude.{Bool, true, false, List, ◌≡◌, ℕ, ◌+◌, ◌/◌, ◌%◌, ◌^◌, ◌<◌, min, ltb, get_or, set, length}
 use Rattle.colors.specs.Place.{place_of}
 

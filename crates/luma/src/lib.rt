@@ -1,4 +1,6 @@
-// The luma pre_check_lem: whether a block's luma values alone are too many.
+// The luma pre-check: whether a block's luma values alone are too many.
+#![tactic(auto)]
+
 ghost use Rattle.std.specs.Prelude.{◌≡◌, Bool, true, false, ℕ, ◌+◌, ◌<◌, ◌≤◌, ltb, length};
 ghost use Rattle.census.specs.Census.{met_by};
 ghost use Rattle.luma.specs.Luma.{coarse, Marked};

@@ -11,7 +11,7 @@ use Rattle.base.specs.Pick.{pick, either, lt_or_le}
 use Rattle.base.specs.Tests.{every, pick_test}
 use Rattle.h265.specs.Scan.{place_above, above_at}
 use Rattle.h265.specs.ScanLaws.{above-closed}
-use Rattle.paths.specs.Cells.{copies, lasts, index_len, above_len}
+use Rattle.paths.specs.Cells.{copies, lasts, index_length, above_length}
 use Rattle.paths.specs.CellLaws.{index_same, index-last, index-other, above-yes, above_no, above_zero, above-some}
 use Rattle.paths.specs.Stretch.{next_stretch, next-begins, next_not, next-inside, next-end}
 
@@ -46,11 +46,11 @@ above_in-row size row j xs h g =
 -- ---- lengths
 
 module _ (n : ℕ) (xs : List ℕ) (p : ℕ) where
-  pub index-end : index_len n xs n ≡ 0
-  unfolding index_len lasts
+  pub index-end : index_length n xs n ≡ 0
+  unfolding index_length lasts
   index-end = let e : n - n ≡ 0 = omega arith in rw e
 
-  pub index-step : (next : ℕ) → p < n → (p + 1 < n → next ≡ get_or xs (p + 1) 0) → pick (eqb (get_or xs p 0) next) (index_len n xs (p + 1) + 1) 1 ≡ index_len n xs p
+  pub index-step : (next : ℕ) → p < n → (p + 1 < n → next ≡ get_or xs (p + 1) 0) → pick (eqb (get_or xs p 0) next) (index_length n xs (p + 1) + 1) 1 ≡ index_length n xs p
   index-step next h e =
       ⊎_elim
       (λ (l : p + 1 < n).
@@ -63,15 +63,15 @@ module _ (n : ℕ) (xs : List ℕ) (p : ℕ) where
       (lt_or_le (p + 1) n)
 
 module _ (size n : ℕ) (xs : List ℕ) (p : ℕ) where
-  pub above-end : 0 ≡ above_len size n xs n
-  unfolding above_len lasts
+  pub above-end : 0 ≡ above_length size n xs n
+  unfolding above_length lasts
   above-end = let e : n - n ≡ 0 = omega arith in rw e
 
   pub copies-is : (up : ℕ) → up ≡ above_at size xs p → every (leb size p ∷ eqb (get_or xs p 0) up ∷ []) ≡ copies size xs p
   unfolding copies
   copies-is up e = rw e
 
-  pub above_step : p < n → pick (copies size xs p) (above_len size n xs (p + 1) + 1) 0 ≡ above_len size n xs p
+  pub above_step : p < n → pick (copies size xs p) (above_length size n xs (p + 1) + 1) 0 ≡ above_length size n xs p
   above_step h = either (copies size xs p) (λ t. rw t (sym (above-yes size n xs p h t))) (λ t. rw t (sym (above_no size n xs p t)))
 
 -- ---- stretches
@@ -89,14 +89,14 @@ module _ (size n : ℕ) (xs : List ℕ) (p : ℕ) where
   unfolding stretch_after
   stretch-none = rw (eq-eqb n n refl)
 
-  pub stretch-step : p < n → stretch_step (copies size xs p) (above_len size n xs (p + 1)) (p + 1) (stretch_after size n xs (p + 1)) ≡ next_stretch size n xs (p + 1)
+  pub stretch-step : p < n → stretch_step (copies size xs p) (above_length size n xs (p + 1)) (p + 1) (stretch_after size n xs (p + 1)) ≡ next_stretch size n xs (p + 1)
   unfolding stretch_step stretch_after
   stretch-step h =
       let z : p + 1 - 1 ≡ p = omega arith in
       ⊎_elim
       (λ (l : p + 1 < n).
       let o : p + 1 ≡ n → ⊥ = λ e. omega arith in
-      rw (ne_eqb (p + 1) n o) (either (eqb (above_len size n xs (p + 1)) 0)
+      rw (ne_eqb (p + 1) n o) (either (eqb (above_length size n xs (p + 1)) 0)
       (λ t. rw t (sym (next_not size n xs (p + 1) l (above_zero size n xs (p + 1) l (eqb-true _ _ t)))))
       (λ t. rw t (either (copies size xs p)
       (λ u. rw u (sym (next-inside size n xs (p + 1) l (rw z u))))
@@ -122,8 +122,8 @@ laid-after f l out n p v h g e w = let z : p - 1 + 1 ≡ p = omega arith in rw z
 
 pub record Measured (size n : ℕ) (xs : List ℕ) (p after run copied stretch : ℕ) : Type 0 where
   pub after_is : p < n → after ≡ get_or xs p 0
-  pub run_is : run ≡ index_len n xs p
-  pub copied_is : copied ≡ above_len size n xs p
+  pub run_is : run ≡ index_length n xs p
+  pub copied_is : copied ≡ above_length size n xs p
   pub stretch_is : stretch ≡ stretch_after size n xs p
 
 pub measured_none : (size n : ℕ) (xs : List ℕ) → Measured size n xs n 0 0 0 n
@@ -143,16 +143,16 @@ module _ (size n : ℕ) (xs : List ℕ) (p after run copied stretch up : ℕ) (h
   pub turn-here : size < p → eqb (get_or xs (p - 1) 0) up ≡ copies size xs (p - 1)
   turn-here l = let o : size ≤ p - 1 = omega arith in sym (pick_test (eqb (get_or xs (p - 1) 0) up)) ∙ (rw (le-leb size (p - 1) o) at (copies-is size n xs (p - 1) up e))
 
-  pub turn_run : pick (eqb (get_or xs (p - 1) 0) after) (run + 1) 1 ≡ index_len n xs (p - 1)
+  pub turn_run : pick (eqb (get_or xs (p - 1) 0) after) (run + 1) 1 ≡ index_length n xs (p - 1)
   turn_run = rw i.run_is (rw back at (index-step n xs (p - 1) after (omega arith) (λ l. rw back (i.after_is (rw back at l)))))
 
   pub turn-stretch : stretch_step (copies size xs (p - 1)) copied p stretch ≡ next_stretch size n xs p
   turn-stretch = rw (i.copied_is, i.stretch_is) (rw back at (stretch-step size n xs (p - 1) (omega arith)))
 
-  pub turn-copied : pick (copies size xs (p - 1)) (copied + 1) 0 ≡ above_len size n xs (p - 1)
+  pub turn-copied : pick (copies size xs (p - 1)) (copied + 1) 0 ≡ above_length size n xs (p - 1)
   turn-copied = rw i.copied_is (rw back at (above_step size n xs (p - 1) (omega arith)))
 
-  pub measured_turn : Measured size n xs (p - 1) (get_or xs (p - 1) 0) (index_len n xs (p - 1)) (above_len size n xs (p - 1)) (next_stretch size n xs p)
+  pub measured_turn : Measured size n xs (p - 1) (get_or xs (p - 1) 0) (index_length n xs (p - 1)) (above_length size n xs (p - 1)) (next_stretch size n xs p)
   measured_turn = record {
     after_is = λ l. refl;
     run_is = refl;

@@ -1,9 +1,11 @@
 // What the planner measures of a block's cells, once: the cells above, how far runs go, and where the next stretch begins.
+#![tactic(auto)]
+
 ghost use Rattle.std.specs.Prelude.{◌≡◌, ℕ, ◌+◌, ◌*◌, ◌≤◌, ◌<◌, eqb, get_or};
 ghost use Rattle.base.specs.Cells.{laid};
 ghost use Rattle.base.specs.Pick.{pick};
 ghost use Rattle.h265.specs.Scan.{above_at};
-ghost use Rattle.paths.specs.Cells.{index_len, above_len};
+ghost use Rattle.paths.specs.Cells.{index_length, above_length};
 ghost use Rattle.paths.specs.Stretch.{next_stretch};
 ghost use Rattle.measure.specs.Steps.{stretch_step};
 
@@ -102,8 +104,8 @@ pub fn fill_lengths(
     n: usize,
 )
     requires { (n ≤ 1024) × ((i : ℕ) → i < n → get_or above.now i 0 ≡ above_at size xs.now i) }
-    ensures { (index_len.new ≡ laid (index_len n xs.now) index_len.old 0 n)
-        × (above_len.new ≡ laid (above_len size n xs.now) above_len.old 0 (n + 1))
+    ensures { (index_len.new ≡ laid (index_length n xs.now) index_len.old 0 n)
+        × (above_len.new ≡ laid (above_length size n xs.now) above_len.old 0 (n + 1))
         × (next.new ≡ laid (next_stretch size n xs.now) next.old 1 n) }
 {
     let mut p = n;

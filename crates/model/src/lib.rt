@@ -1,7 +1,8 @@
 // The records that the calls take and give.
+#![tactic(auto)]
 
 // A palette entry: luma and two chroma components.
-#[derive(Drop)]
+#[derive(Clone, Copy)]
 pub struct Color {
     pub y: u16,
     pub cb: u16,
@@ -9,7 +10,7 @@ pub struct Color {
 }
 
 // The escape levels of a cell.
-#[derive(Drop)]
+#[derive(Clone, Copy)]
 pub struct Levels {
     pub y: u16,
     pub cb: u16,
@@ -17,7 +18,7 @@ pub struct Levels {
 }
 
 // What is fixed for a picture: component count, format, depths, QPs, lossless or not.
-#[derive(Drop)]
+#[derive(Clone, Copy)]
 pub struct PaletteConfig {
     pub num_comps: usize,
     pub chroma_idc: u8,
@@ -30,7 +31,7 @@ pub struct PaletteConfig {
 }
 
 // The sides of the planes, and where the block lies in the picture.
-#[derive(Drop)]
+#[derive(Clone, Copy)]
 pub struct SourceBlock {
     pub yw: usize,
     pub yh: usize,
@@ -42,7 +43,7 @@ pub struct SourceBlock {
 }
 
 // One palette block: cells stand in scan order, and index palette_size marks an escape.
-#[derive(Drop)]
+#[derive(Clone, Copy)]
 pub struct PaletteCu {
     pub size: usize,
     pub chroma_idc: u8,
@@ -63,14 +64,14 @@ pub struct PaletteCu {
 }
 
 // The palette predictor: its first `size` entries.
-#[derive(Drop)]
+#[derive(Clone, Copy)]
 pub struct PalettePredictor {
     pub entries: [Color; 128],
     pub size: usize,
 }
 
 // A run along the scan: copy-above or not, index sent, length - 1, start.
-#[derive(Drop)]
+#[derive(Clone, Copy)]
 pub struct PaletteRun {
     pub above: bool,
     pub sent: u32,

@@ -1,11 +1,13 @@
 // A block laid onto a lent plane.
+#![tactic(auto)]
+
 ghost use Rattle.std.specs.Prelude.{◌≡◌, Bool, true, false, ℕ, ◌+◌, ◌-◌, ◌*◌, ◌<◌, ◌≤◌, min, length};
 ghost use Rattle.base.specs.Cells.{laid};
 ghost use Rattle.onto.specs.Onto.{part_of, cell_of, after};
 ghost use Rattle.onto.specs.Laws.{columns, rows, scan_rows, from_cells, Apt, rows_put, stretch};
 
 // Where a block goes: the plane, the part of it that the block covers, the luma columns and rows to one of it, the block's size and transposition, and the component.
-#[derive(Drop)]
+#[derive(Clone, Copy)]
 pub struct Onto {
     pub stride: usize,
     pub height: usize,

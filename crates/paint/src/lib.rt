@@ -1,4 +1,6 @@
 // Palette and flags of a block, from its colours and their counts.
+#![tactic(auto)]
+
 ghost use Rattle.std.specs.Prelude.{◌≡◌, List, map, ℕ, ◌≤◌, length, take};
 ghost use Rattle.choose.specs.Choose.{painting_of};
 ghost use Rattle.paint.specs.Paint.{colour_in, palette_of};

@@ -12,7 +12,7 @@ use borrow.Author.Tests.{eq-eqb, ne_eqb, eqb-true, eqb-false, le-leb, lt-leb, le
 use Rattle.base.specs.Pick.{pick, either, true_false}
 use Rattle.h265.specs.Scan.{above_at}
 use Rattle.syntax.specs.Replay.{reference}
-use Rattle.paths.specs.Cells.{copies, lasts, index_len, above_len, draws_from, draws, stops_at}
+use Rattle.paths.specs.Cells.{copies, lasts, index_length, above_length, draws_from, draws, stops_at}
 
 -- ---- the cells that pass a test
 
@@ -56,70 +56,70 @@ module _ (f : ℕ → Bool) where
 -- ---- index runs
 
 module _ (n : ℕ) (xs : List ℕ) (p : ℕ) where
-  pub index_le : p ≤ n → p + index_len n xs p ≤ n
-  unfolding index_len
+  pub index_le : p ≤ n → p + index_length n xs p ≤ n
+  unfolding index_length
   index_le h = omega (arith, lasts_le (λ i. eqb (get_or xs i 0) (get_or xs p 0)) (n - p) p)
 
-  pub index-cells : (j : ℕ) → j < index_len n xs p → get_or xs (p + j) 0 ≡ get_or xs p 0
-  unfolding index_len
+  pub index-cells : (j : ℕ) → j < index_length n xs p → get_or xs (p + j) 0 ≡ get_or xs p 0
+  unfolding index_length
   index-cells j h = eqb-true (get_or xs (p + j) 0) (get_or xs p 0) (lasts-all (λ i. eqb (get_or xs i 0) (get_or xs p 0)) (n - p) p j h)
 
-  pub index_ends : p ≤ n → p + index_len n xs p < n → get_or xs (p + index_len n xs p) 0 ≡ get_or xs p 0 → ⊥
-  unfolding index_len
+  pub index_ends : p ≤ n → p + index_length n xs p < n → get_or xs (p + index_length n xs p) 0 ≡ get_or xs p 0 → ⊥
+  unfolding index_length
   index_ends h g = eqb-false _ _ (lasts-stop (λ i. eqb (get_or xs i 0) (get_or xs p 0)) (n - p) p (omega arith))
 
-  pub index_same : p + 1 < n → get_or xs p 0 ≡ get_or xs (p + 1) 0 → index_len n xs p ≡ index_len n xs (p + 1) + 1
-  unfolding index_len
+  pub index_same : p + 1 < n → get_or xs p 0 ≡ get_or xs (p + 1) 0 → index_length n xs p ≡ index_length n xs (p + 1) + 1
+  unfolding index_length
   index_same h e =
       let o : n - p - 1 ≡ n - (p + 1) = omega arith in
       lasts-yes (λ i. eqb (get_or xs i 0) (get_or xs p 0)) (n - p) p (omega arith) (eq-eqb (get_or xs p 0) (get_or xs p 0) refl) ∙ rw (o, e)
 
-  pub index-last : p + 1 ≡ n → index_len n xs p ≡ 1
-  unfolding index_len lasts
+  pub index-last : p + 1 ≡ n → index_length n xs p ≡ 1
+  unfolding index_length lasts
   index-last h =
       let o : n - p ≡ 1 = omega arith in
       rw (o, eq-eqb (get_or xs p 0) (get_or xs p 0) refl)
 
-  pub index-other : p + 1 < n → (get_or xs p 0 ≡ get_or xs (p + 1) 0 → ⊥) → index_len n xs p ≡ 1
-  unfolding index_len
+  pub index-other : p + 1 < n → (get_or xs p 0 ≡ get_or xs (p + 1) 0 → ⊥) → index_length n xs p ≡ 1
+  unfolding index_length
   index-other h d =
       let f : ℕ → Bool = λ i. eqb (get_or xs i 0) (get_or xs p 0) in
       let z : eqb (get_or xs (p + 1) 0) (get_or xs p 0) ≡ false = ne_eqb _ _ (λ e. d (sym e)) in
       lasts-yes (λ i. eqb (get_or xs i 0) (get_or xs p 0)) (n - p) p (omega arith) (eq-eqb (get_or xs p 0) (get_or xs p 0) refl)
       ∙ rw (lasts_no (λ i. eqb (get_or xs i 0) (get_or xs p 0)) (n - p - 1) (p + 1) z)
 
-  pub index-some : p < n → 1 ≤ index_len n xs p
-  unfolding index_len
+  pub index-some : p < n → 1 ≤ index_length n xs p
+  unfolding index_length
   index-some h = omega (arith, lasts-yes (λ i. eqb (get_or xs i 0) (get_or xs p 0)) (n - p) p (omega arith) (eq-eqb (get_or xs p 0) (get_or xs p 0) refl))
 
 -- ---- copy-above runs
 
 module _ (size n : ℕ) (xs : List ℕ) (p : ℕ) where
-  pub above_le : p ≤ n → p + above_len size n xs p ≤ n
-  unfolding above_len
+  pub above_le : p ≤ n → p + above_length size n xs p ≤ n
+  unfolding above_length
   above_le h = omega (arith, lasts_le (copies size xs) (n - p) p)
 
-  pub above-cells : (j : ℕ) → j < above_len size n xs p → copies size xs (p + j) ≡ true
-  unfolding above_len
+  pub above-cells : (j : ℕ) → j < above_length size n xs p → copies size xs (p + j) ≡ true
+  unfolding above_length
   above-cells j h = lasts-all (copies size xs) (n - p) p j h
 
-  pub above_ends : p ≤ n → p + above_len size n xs p < n → copies size xs (p + above_len size n xs p) ≡ false
-  unfolding above_len
+  pub above_ends : p ≤ n → p + above_length size n xs p < n → copies size xs (p + above_length size n xs p) ≡ false
+  unfolding above_length
   above_ends h g = lasts-stop (copies size xs) (n - p) p (omega arith)
 
-  pub above-yes : p < n → copies size xs p ≡ true → above_len size n xs p ≡ above_len size n xs (p + 1) + 1
-  unfolding above_len
+  pub above-yes : p < n → copies size xs p ≡ true → above_length size n xs p ≡ above_length size n xs (p + 1) + 1
+  unfolding above_length
   above-yes h t = let o : n - p - 1 ≡ n - (p + 1) = omega arith in lasts-yes (copies size xs) (n - p) p (omega arith) t ∙ rw o
 
-  pub above_no : copies size xs p ≡ false → above_len size n xs p ≡ 0
-  unfolding above_len
+  pub above_no : copies size xs p ≡ false → above_length size n xs p ≡ 0
+  unfolding above_length
   above_no t = lasts_no (copies size xs) (n - p) p t
 
   -- the length says whether p can be copied
-  pub above_zero : p < n → above_len size n xs p ≡ 0 → copies size xs p ≡ false
+  pub above_zero : p < n → above_length size n xs p ≡ 0 → copies size xs p ≡ false
   above_zero h e = either (copies size xs p) (λ t. absurd (omega (arith, above-yes h t))) (λ t. t)
 
-  pub above-some : p < n → (above_len size n xs p ≡ 0 → ⊥) → copies size xs p ≡ true
+  pub above-some : p < n → (above_length size n xs p ≡ 0 → ⊥) → copies size xs p ≡ true
   above-some h e = either (copies size xs p) (λ t. t) (λ t. absurd (e (above_no t)))
 
 -- ---- one cell

@@ -15,12 +15,12 @@ lasts f zero i = 0
 lasts f (suc k) i = let more : ℕ = suc (lasts f k (suc i)) in pick (f i) more 0
 
 -- the cells from p on that have p's index
-unfoldable pub index_len : ℕ → List ℕ → ℕ → ℕ
-index_len n xs p = lasts (λ i. eqb (get_or xs i 0) (get_or xs p 0)) (n - p) p
+unfoldable pub index_length : ℕ → List ℕ → ℕ → ℕ
+index_length n xs p = lasts (λ i. eqb (get_or xs i 0) (get_or xs p 0)) (n - p) p
 
 -- the cells from p on that can be copied
-unfoldable pub above_len : ℕ → ℕ → List ℕ → ℕ → ℕ
-above_len size n xs p = lasts (copies size xs) (n - p) p
+unfoldable pub above_length : ℕ → ℕ → List ℕ → ℕ → ℕ
+above_length size n xs p = lasts (copies size xs) (n - p) p
 
 -- an index run may start at p, where the index is v: it differs from its reference, of which there is none at 0
 unfoldable pub draws_from : ℕ → ℕ → ℕ → Bool

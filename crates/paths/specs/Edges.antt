@@ -10,7 +10,7 @@ use Rattle.base.specs.Pick.{pick, either, true_false, lt_or_le}
 use Rattle.base.specs.Tests.{every}
 use Rattle.base.specs.Upto.{Upto}
 use Rattle.syntax.specs.Runs.{may_copy}
-use Rattle.paths.specs.Cells.{copies, index_len, above_len, draws, sent_for, stops_at}
+use Rattle.paths.specs.Cells.{copies, index_length, above_length, draws, sent_for, stops_at}
 use Rattle.paths.specs.CellLaws.{index_le, index-cells, index_ends, index-some, above_le, above-cells, above_ends, above-yes, stops-copies}
 use Rattle.paths.specs.Plan.{Job, Table, slot, infinite, head_rate, draw_cost, copy_cost, relaxed, stopped, indexed, copied}
 
@@ -57,7 +57,7 @@ both true false e = absurd (true_false (sym e))
 both false b e = absurd (true_false (sym e))
 
 module _ (j : Job) (p : ℕ) (l : Bool) (ph : p < j.n) where
-  pub index_edge : draws j.size j.xs p l ≡ true → Draw j p l (p + index_len j.n j.xs p)
+  pub index_edge : draws j.size j.xs p l ≡ true → Draw j p l (p + index_length j.n j.xs p)
   index_edge d = record {
     low = omega (arith, index-some j.n j.xs p ph);
     high = index_le j.n j.xs p (omega arith);
@@ -66,7 +66,7 @@ module _ (j : Job) (p : ℕ) (l : Bool) (ph : p < j.n) where
     ends = λ h. inl (index_ends j.n j.xs p (omega arith) h);
   }
 
-  pub stop_edge : (q : ℕ) → draws j.size j.xs p l ≡ true → p < q → q < p + index_len j.n j.xs p → stops_at j.size j.xs p q ≡ true → Draw j p l q
+  pub stop_edge : (q : ℕ) → draws j.size j.xs p l ≡ true → p < q → q < p + index_length j.n j.xs p → stops_at j.size j.xs p q ≡ true → Draw j p l q
   stop_edge q d low high s = record {
     low = low;
     high = omega (arith, index_le j.n j.xs p (omega arith));
@@ -75,7 +75,7 @@ module _ (j : Job) (p : ℕ) (l : Bool) (ph : p < j.n) where
     ends = λ h. inr (stops-copies j.size j.xs p q s);
   }
 
-  pub copy_edge : may_copy j.size p l ≡ true → copies j.size j.xs p ≡ true → Copy j p l (p + above_len j.size j.n j.xs p)
+  pub copy_edge : may_copy j.size p l ≡ true → copies j.size j.xs p ≡ true → Copy j p l (p + above_length j.size j.n j.xs p)
   copy_edge m c = record {
     low = omega (arith, above-yes j.size j.n j.xs p ph c);
     high = above_le j.size j.n j.xs p (omega arith);
@@ -86,7 +86,7 @@ module _ (j : Job) (p : ℕ) (l : Bool) (ph : p < j.n) where
 
 module _ (j : Job) (p : ℕ) (l : Bool) (c : Float) (ph : p < j.n) (P : Table → Type 0)
     (one : (t : Table) (q : ℕ) (k : Bool) → P t → Edge j p l q k → P (relaxed t (slot q k) (cost_of j p l c q k) p l)) where
-  pub stopped-keeps : draws j.size j.xs p l ≡ true → (f q : ℕ) (t : Table) → p < q → q + f ≤ p + index_len j.n j.xs p → P t
+  pub stopped-keeps : draws j.size j.xs p l ≡ true → (f q : ℕ) (t : Table) → p < q → q + f ≤ p + index_length j.n j.xs p → P t
       → P (stopped (stops_at j.size j.xs p) (draw_cost j p (sent_for j.size j.xs p l) (head_rate j p l c)) p l f q t)
   unfolding stopped
   stopped-keeps d zero q t low high h = h
@@ -101,8 +101,8 @@ module _ (j : Job) (p : ℕ) (l : Bool) (c : Float) (ph : p < j.n) (P : Table �
   indexed-keeps t h = at (draws j.size j.xs p l) refl
     where
       at : (d : Bool) → draws j.size j.xs p l ≡ d
-          → P (pick d (relaxed (stopped (stops_at j.size j.xs p) (draw_cost j p (sent_for j.size j.xs p l) (head_rate j p l c)) p l (p + index_len j.n j.xs p - (p + 1)) (p + 1) t) (slot (p + index_len j.n j.xs p) false) (draw_cost j p (sent_for j.size j.xs p l) (head_rate j p l c) (p + index_len j.n j.xs p)) p l) t)
-      at true d = one _ (p + index_len j.n j.xs p) false (stopped-keeps d (p + index_len j.n j.xs p - (p + 1)) (p + 1) t (omega arith) (omega (arith, index-some j.n j.xs p ph)) h) (index_edge j p l ph d)
+          → P (pick d (relaxed (stopped (stops_at j.size j.xs p) (draw_cost j p (sent_for j.size j.xs p l) (head_rate j p l c)) p l (p + index_length j.n j.xs p - (p + 1)) (p + 1) t) (slot (p + index_length j.n j.xs p) false) (draw_cost j p (sent_for j.size j.xs p l) (head_rate j p l c) (p + index_length j.n j.xs p)) p l) t)
+      at true d = one _ (p + index_length j.n j.xs p) false (stopped-keeps d (p + index_length j.n j.xs p - (p + 1)) (p + 1) t (omega arith) (omega (arith, index-some j.n j.xs p ph)) h) (index_edge j p l ph d)
       at false d = h
 
   pub copied-keeps : (t : Table) → P t → P (copied j p l c t)
@@ -110,8 +110,8 @@ module _ (j : Job) (p : ℕ) (l : Bool) (c : Float) (ph : p < j.n) (P : Table �
   copied-keeps t h = at (every (may_copy j.size p l ∷ copies j.size j.xs p ∷ [])) refl
     where
       at : (b : Bool) → every (may_copy j.size p l ∷ copies j.size j.xs p ∷ []) ≡ b
-          → P (pick b (relaxed t (slot (p + above_len j.size j.n j.xs p) true) (copy_cost j p c (p + above_len j.size j.n j.xs p)) p l) t)
-      at true b = let s = both (may_copy j.size p l) (copies j.size j.xs p) b in one t (p + above_len j.size j.n j.xs p) true h (copy_edge j p l ph s.0 s.1)
+          → P (pick b (relaxed t (slot (p + above_length j.size j.n j.xs p) true) (copy_cost j p c (p + above_length j.size j.n j.xs p)) p l) t)
+      at true b = let s = both (may_copy j.size p l) (copies j.size j.xs p) b in one t (p + above_length j.size j.n j.xs p) true h (copy_edge j p l ph s.0 s.1)
       at false b = h
 
   pub both_keep : (t : Table) → P t → P (copied j p l c (indexed j p l c t))

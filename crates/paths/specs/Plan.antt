@@ -9,7 +9,7 @@ use Rattle.model.specs.declared.PaletteRun.{PaletteRun}
 use Rattle.rates.specs.declared.RateModel.{RateModel}
 use Rattle.rates.specs.Rates.{run_rate, index_rate, share_rate}
 use Rattle.syntax.specs.Runs.{may_copy}
-use Rattle.paths.specs.Cells.{copies, index_len, above_len, draws, sent_for, stops_at}
+use Rattle.paths.specs.Cells.{copies, index_length, above_length, draws, sent_for, stops_at}
 
 -- ---- costs
 
@@ -94,14 +94,14 @@ unfoldable pub indexed : Job → ℕ → Bool → Float → Table → Table
 indexed j p k c t =
     let sent : ℕ = sent_for j.size j.xs p k in
     let g : ℕ → Float = draw_cost j p sent (head_rate j p k c) in
-    let end : ℕ = p + index_len j.n j.xs p in
+    let end : ℕ = p + index_length j.n j.xs p in
     pick (draws j.size j.xs p k)
     (relaxed (stopped (stops_at j.size j.xs p) g p k (end - (p + 1)) (p + 1) t) (slot end false) (g end) p k) t
 
 -- the copy-above run from p, always as long as can be
 unfoldable pub copied : Job → ℕ → Bool → Float → Table → Table
 copied j p k c t =
-    let end : ℕ = p + above_len j.size j.n j.xs p in
+    let end : ℕ = p + above_length j.size j.n j.xs p in
     pick (every (may_copy j.size p k ∷ copies j.size j.xs p ∷ [])) (relaxed t (slot end true) (copy_cost j p c end) p k) t
 
 -- the runs that start at slot s, where some path ends

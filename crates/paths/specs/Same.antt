@@ -8,7 +8,7 @@ use Rattle.std.specs.Float.{nan}
 use Rattle.std.specs.Float.Ieee.{lt}
 use Rattle.base.specs.Pick.{pick, either}
 use Rattle.syntax.specs.Runs.{may_copy}
-use Rattle.paths.specs.Cells.{copies, index_len, above_len, sent_for, stops_at}
+use Rattle.paths.specs.Cells.{copies, index_length, above_length, sent_for, stops_at}
 use Rattle.paths.specs.CellLaws.{index_le, index-some, above_le, above-yes}
 use Rattle.paths.specs.Plan.{Price, Job, job, Table, place_of, kind_of, flag_rate, head_rate, draw_cost, copy_cost, stopped, indexed, copied, stepped, swept, fresh, end_cost, last_kind, trail, runs_of, planned}
 
@@ -43,8 +43,8 @@ module _ (size n most : ℕ) (xs : List ℕ) (v w : Price) (s : Same n v w) wher
       let b = index-some n xs p h in
       rw (
         head-same p k c,
-        draw_same p (sent_for size xs p k) (head_rate (job size n most xs w) p k c) (p + index_len n xs p) (omega arith) a,
-        stopped-same (stops_at size xs p) (draw_cost (job size n most xs v) p (sent_for size xs p k) (head_rate (job size n most xs w) p k c)) (draw_cost (job size n most xs w) p (sent_for size xs p k) (head_rate (job size n most xs w) p k c)) p k (p + index_len n xs p - (p + 1)) (p + 1) t
+        draw_same p (sent_for size xs p k) (head_rate (job size n most xs w) p k c) (p + index_length n xs p) (omega arith) a,
+        stopped-same (stops_at size xs p) (draw_cost (job size n most xs v) p (sent_for size xs p k) (head_rate (job size n most xs w) p k c)) (draw_cost (job size n most xs w) p (sent_for size xs p k) (head_rate (job size n most xs w) p k c)) p k (p + index_length n xs p - (p + 1)) (p + 1) t
             (λ i x y. draw_same p (sent_for size xs p k) (head_rate (job size n most xs w) p k c) i (omega arith) (omega arith)),
       )
 
@@ -53,8 +53,8 @@ module _ (size n most : ℕ) (xs : List ℕ) (v w : Price) (s : Same n v w) wher
   copied-same p k c t h =
       either (copies size xs p)
       (λ y.
-      let o : p < p + above_len size n xs p = omega (arith, above-yes size n xs p h y) in
-      rw (copy_same p c (p + above_len size n xs p) o (above_le size n xs p (omega arith))))
+      let o : p < p + above_length size n xs p = omega (arith, above-yes size n xs p h y) in
+      rw (copy_same p c (p + above_length size n xs p) o (above_le size n xs p (omega arith))))
       (λ y. rw y (either (may_copy size p k) (λ z. rw z) (λ z. rw z)))
 
   stepped_same : (i : ℕ) (t : Table) → i < n * 2 → stepped (job size n most xs v) i t ≡ stepped (job size n most xs w) i t

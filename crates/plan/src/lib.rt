@@ -1,4 +1,6 @@
 // The run planner: refusals, and the runs of the cheapest path.
+#![tactic(auto)]
+
 ghost use Rattle.std.specs.Prelude.{◌≡◌, true, ◌+◌, ◌-◌, ◌≤◌};
 ghost use Rattle.h265.specs.Strings.{bit};
 ghost use Rattle.model.specs.Whole.{holds};
@@ -11,7 +13,7 @@ use rates::{RateModel, rates_in};
 use whole::{block_size_in, holds_together};
 
 // Nothing to code, a count of runs with the total in bits, or a refusal's number.
-#[derive(Drop)]
+#[derive(Clone, Copy)]
 pub enum Planned {
     Nothing,
     Runs(usize, f32),
@@ -19,7 +21,7 @@ pub enum Planned {
 }
 
 // The answer, and the runs beside it: the first of 1024, which else are blank.
-#[derive(Drop)]
+#[derive(Clone, Copy)]
 pub struct Plan {
     pub answer: Planned,
     pub runs: [PaletteRun; 1024],

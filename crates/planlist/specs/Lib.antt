@@ -1,2 +1,1 @@
 pub mod After
-pub mod AfterLaws

@@ -1,4 +1,6 @@
 // The run planner, with a list of run records that the caller lends.
+#![tactic(auto)]
+
 ghost use Rattle.std.specs.Prelude.{◌≡◌, ◌≤◌, length};
 ghost use Rattle.plan.specs.Answer.{plan_of};
 ghost use Rattle.planlist.specs.After.{count_of, counted_of, runs_after};
@@ -9,7 +11,7 @@ use rates::RateModel;
 use runlist::lay_runs;
 
 // A planner's answer, and the runs to be laid.
-#[derive(Drop)]
+#[derive(Clone, Copy)]
 pub struct Counted {
     pub answer: Planned,
     pub count: usize,

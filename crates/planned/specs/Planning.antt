@@ -14,7 +14,8 @@ use Rattle.sums.specs.Finite.{type_upto, run_upto, shares_upto}
 use Rattle.syntax.specs.KeepLaws.{keeps-count}
 use Rattle.syntax.specs.Runs.{Keeps, sent_of}
 use Rattle.syntax.specs.Replay.{Replays, replay}
-use Rattle.syntax.specs.ReplayLaws.{Alphabets, rules_keep, rules-alphabets}
+use Rattle.syntax.specs.ReplayLaws.{Alphabets}
+use Rattle.syntax.proofs.ReplayLaws.{rules_keep, rules-alphabets}
 use Rattle.paths.specs.Plan.{Table, price_of, infinite, swept, fresh, last_kind, planned}
 use Rattle.paths.specs.Edges.{cost_of}
 use Rattle.paths.specs.TableLaws.{cost_at, Reached}

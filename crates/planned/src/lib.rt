@@ -1,1 +1,2 @@
 // What is promised of the plan of every block. Theorems only, in specs/.
+#![tactic(auto)]

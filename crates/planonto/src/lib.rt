@@ -1,4 +1,6 @@
 // The cheapest path's runs, from the planner's table straight onto a list of numbers, as crate flatplan lays them out.
+#![tactic(auto)]
+
 ghost use Rattle.std.specs.Prelude.{◌≡◌, false, [], ◌∷◌, ◌+◌, ◌*◌, ◌/◌, ◌≤◌, leb, length};
 ghost use Rattle.std.specs.Float.Ieee.{lt};
 ghost use Rattle.std.proofs.lemmas.List.Edits.{sets};
@@ -16,7 +18,7 @@ use rates::RateModel;
 use walk::{lay, run_to};
 
 // How many runs there are, and the total in bits.
-#[derive(Drop)]
+#[derive(Clone, Copy)]
 pub struct Onto {
     pub count: usize,
     pub total: f32,

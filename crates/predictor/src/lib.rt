@@ -1,4 +1,6 @@
 // The palette predictor: empty at first, and after each block its palette and what it did not reuse.
+#![tactic(auto)]
+
 ghost use Rattle.std.specs.Prelude.{◌≡◌, ◌≤◌, min, take};
 ghost use Rattle.predictor.specs.Update.{padded, empty_predictor, renewed_of, update_of};
 
@@ -7,7 +9,7 @@ use model::{Color, PaletteCu, PalettePredictor};
 use whole::{block_size_in, holds_together};
 
 // An update's answer: a refusal's number, 0 where there is none, and the predictor after it.
-#[derive(Drop)]
+#[derive(Clone, Copy)]
 pub struct Updated {
     pub refusal: u8,
     pub predictor: PalettePredictor,

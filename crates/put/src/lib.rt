@@ -1,4 +1,6 @@
 // Bins onto a lent list. A bin past the list's end is not stored, and counted all the same: a writer asks no room and answers the place after its last bin.
+#![tactic(auto)]
+
 ghost use Rattle.std.specs.Prelude.{[], ◌∷◌, ◌≡◌, ℕ, ◌+◌, ◌^◌, ◌≤◌, ◌<◌, length, ltb};
 ghost use Rattle.std.proofs.lemmas.List.Edits.{sets};
 ghost use Rattle.base.specs.Laid.{Laid};

@@ -1,4 +1,6 @@
 // The writer of the escape levels onto a lent bin list, component by component, from the block's list of numbers, as crate flat lays it out.
+#![tactic(auto)]
+
 ghost use Rattle.std.specs.Prelude.{◌≡◌, true, ◌+◌, ◌*◌, ◌^◌, ◌≤◌, ◌<◌, length};
 ghost use Rattle.base.specs.Laid.{Laid};
 ghost use Rattle.base.specs.Pick.{pick};

@@ -1,4 +1,6 @@
 // The writer of the indices sent, one for each index run, onto a lent bin list; and what it learns of a run list first.
+#![tactic(auto)]
+
 ghost use Rattle.std.specs.Prelude.{◌≡◌, false, [], ◌+◌, ◌-◌, ◌*◌, ◌^◌, ◌≤◌, ◌<◌, eqb, length};
 ghost use Rattle.base.specs.Codes.{each_bins, Each};
 ghost use Rattle.base.specs.Laid.{Laid};

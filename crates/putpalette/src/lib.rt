@@ -1,4 +1,6 @@
 // The writer of a block's palette onto a lent bin list, from the block's list of numbers, as crate flat lays it out: reuse runs, signalled entries and the escape flag.
+#![tactic(auto)]
+
 ghost use Rattle.std.specs.Prelude.{◌≡◌, [], ◌+◌, ◌-◌, ◌*◌, ◌^◌, ◌≤◌, ◌<◌, ltb, length, take, drop, replicate};
 ghost use Rattle.base.specs.Codes.{each_bins, when_bins};
 ghost use Rattle.base.specs.Laid.{Laid};

@@ -1,4 +1,6 @@
 // The writer of the reuse runs, palette_predictor_run, onto a lent bin list.
+#![tactic(auto)]
+
 ghost use Rattle.std.specs.Prelude.{◌≡◌, ◌+◌, ◌^◌, ◌≤◌, ◌<◌, length, take, drop};
 ghost use Rattle.base.specs.Laid.{Laid};
 ghost use Rattle.h265.specs.Reuse.{lead, code_of, reuse_bins};

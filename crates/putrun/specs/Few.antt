@@ -8,7 +8,7 @@ use Rattle.base.specs.Powers.{pow_next, exp_lt}
 use Rattle.base.specs.Tests.{up_to, up_to-at}
 use Rattle.h265.specs.Strings.{bits, flog, flog_aux, unary, run_class, prefix_of, suffix_bins, run_bins}
 use Rattle.h265.specs.StringLaws.{flog-low, flog-high}
-use Rattle.h265.specs.RunLaws.{suffix_is, runs-some}
+use Rattle.h265.proofs.RunLaws.{suffix_is, runs-some}
 use Rattle.bins.specs.Logarithm.{flog-most, suffixes-all}
 use Rattle.put.specs.Words.{bytes, length-bytes, bytes-append, same_list, same_list_lem, spread}
 use Rattle.putrun.specs.Ones.{length-ones, stopped}

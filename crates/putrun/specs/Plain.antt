@@ -4,7 +4,7 @@ use Rattle.std.proofs.Common.{◌∙◌, le_refl, arith, pow_pos}
 use Rattle.base.specs.Powers.{pow_next}
 use Rattle.h265.specs.Strings.{bits, flog, short, tb}
 use Rattle.h265.specs.StringLaws.{flog-is}
-use Rattle.h265.specs.TbLaws.{tb-short}
+use Rattle.h265.proofs.TbLaws.{tb-short}
 
 pub tb_plain : (k v : ℕ) → v < 2 ^ k → tb (2 ^ k) v ≡ bits k v
 tb_plain k v h =

@@ -4,7 +4,8 @@ use Rattle.std.proofs.Common.{ap, sym, ◌∙◌, append_assoc, arith}
 use Rattle.base.specs.Pick.{pick}
 use Rattle.syntax.specs.Runs.{Run, Keeps, sent_of, final_of, kind_bins, more_bins, runs_bins}
 use Rattle.syntax.specs.KeepLaws.{keeps_le, keeps-room}
-use Rattle.syntax.specs.RunsLaws.{MoreOk, keeps-more}
+use Rattle.syntax.specs.RunsLaws.{MoreOk}
+use Rattle.syntax.proofs.RunsLaws.{keeps-more}
 
 pub record Going (size n : ℕ) (fin : Bool) (scan : ℕ) (prev : Bool) (left : ℕ) (rs : List Run) : Type 0 where
   pub keeps : Keeps size n scan prev rs

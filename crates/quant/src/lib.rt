@@ -1,4 +1,6 @@
 // Step of a QP, tolerance, distance of two colours, escape levels and their values.
+#![tactic(auto)]
+
 ghost use Rattle.std.specs.Prelude.{◌≡◌, false, ◌-◌, ◌≤◌, ◌<◌, min, max, pos, ◌≤ℤ◌};
 ghost use Rattle.h265.specs.Escape.{from_zero, scale_of, step_at, escape_value};
 ghost use Rattle.quant.specs.Quant.{tolerance_of, gap, nearer, start_of, level_of, dist};
@@ -38,6 +40,7 @@ pub fn step(qp: i32) -> u64
 }
 
 // The tolerance at a step.
+#[tactic(auto, unfolding(crate::specs::Quant::tolerance_of))]
 pub fn tolerance(lossless: bool, step: u64) -> u64
     ensures { result ≡ tolerance_of lossless step }
 {

@@ -5,8 +5,8 @@ use Rattle.std.proofs.lemmas.Bool.{eqb-false}
 use Rattle.base.specs.Pick.{pick, either}
 use Rattle.h265.specs.Strings.{bits, flog, flog_aux, short, tb, unary, run_class, prefix_of, suffixes, suffix_bins, run_bins}
 use Rattle.h265.specs.StringLaws.{flog-low, flog-high, flog-is}
-use Rattle.h265.specs.TbLaws.{tb-short, tb-long}
-use Rattle.h265.specs.RunLaws.{runs_zero, runs-some, suffixes-one, suffix_in}
+use Rattle.h265.proofs.TbLaws.{tb-short, tb-long}
+use Rattle.h265.proofs.RunLaws.{runs_zero, runs-some, suffixes-one, suffix_in}
 use Rattle.base.specs.Powers.{pow_next}
 use Rattle.rates.specs.Rates.{Part, Bin, Row, bins_of, singly, tb_parts, suffix_parts, run_parts}
 

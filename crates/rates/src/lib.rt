@@ -1,4 +1,6 @@
 // The rate model, by value: the test of its rates, and what a bin, an index and an index run's share of the count cost.
+#![tactic(auto)]
+
 ghost use Rattle.std.specs.Prelude.{◌≡◌, ◌≤◌};
 ghost use Rattle.base.specs.Upto as U;
 ghost use Rattle.rates.specs.Rates.{rate_in, pair_in, rates_in, class_rates, rate_of, index_rate, share_rate};
@@ -6,14 +8,14 @@ ghost use Rattle.rates.specs.Rates.{rate_in, pair_in, rates_in, class_rates, rat
 use bins::{flog, pow2};
 
 // The rates of a bin that is 0 and of one that is 1.
-#[derive(Drop)]
+#[derive(Clone, Copy)]
 pub struct Pair {
     pub bin0: f32,
     pub bin1: f32,
 }
 
 // Two run-type rates and eight pairs of run-prefix rates, in bits.
-#[derive(Drop)]
+#[derive(Clone, Copy)]
 pub struct RateModel {
     pub run_type: Pair,
     pub run_prefix: [Pair; 8],

@@ -1,4 +1,6 @@
 // The reader of a palette block, with its refusals.
+#![tactic(auto)]
+
 ghost use Rattle.std.specs.Prelude.{◌≡◌, ◌*◌};
 ghost use Rattle.read.specs.Reading.{formats_in, sizes_in, read_refusal, read_of};
 

@@ -26,13 +26,14 @@ use Rattle.model.specs.Whole.{no_levels}
 use Rattle.model.specs.declared.Levels as D
 use Rattle.replay.specs.Into.{Short}
 use Rattle.syntax.specs.Block.{Entry, Call, Palette, Map, Levels, Sent, colours, max_index, cells_in, cells_of, chosen, alphabets, entries_at, signalled_at, palette_at, map_at, chroma_due, levels_at, sent_at, told_by, read_block}
-use Rattle.syntax.specs.BlockLaws.{length-chosen}
+use Rattle.syntax.proofs.BlockLaws.{length-chosen}
 use Rattle.syntax.specs.KeepLaws.{sent_above, sent_index}
 use Rattle.syntax.specs.MapLaws.{Under, CodedOk, MapOk}
-use Rattle.syntax.specs.PaletteLaws.{CallOk, PaletteOk, palette_code}
+use Rattle.syntax.specs.PaletteLaws.{CallOk, PaletteOk}
+use Rattle.syntax.proofs.PaletteLaws.{palette_code}
 use Rattle.syntax.specs.Records.{no_run}
 use Rattle.syntax.specs.Replay.{replay}
-use Rattle.syntax.specs.ReplayLaws.{length-replay}
+use Rattle.syntax.proofs.ReplayLaws.{length-replay}
 use Rattle.syntax.specs.Runs.{Run, Keeps, sent_of}
 use Rattle.readblock.specs.declared.BlockRead.{BlockRead}
 use Rattle.readblock.specs.Read.{call_for, zip_levels, cu_read, refused_of, answer_of}

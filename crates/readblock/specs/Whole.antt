@@ -16,8 +16,9 @@ use Rattle.getpalette.specs.Read.{blank_read, palette_read}
 use Rattle.h265.specs.Reuse.{trues}
 use Rattle.model.specs.Domain.{no_color}
 use Rattle.syntax.specs.Block.{Entry, Call, Palette, Map, Levels, Sent, colours, max_index, cells_in, cells_of, chosen, entries_at, palette_at, map_at, chroma_due, levels_at, sent_at, told_by, read_block}
-use Rattle.syntax.specs.BlockLaws.{length-chosen}
-use Rattle.syntax.specs.PaletteLaws.{CallOk, PaletteOk, palette_code}
+use Rattle.syntax.proofs.BlockLaws.{length-chosen}
+use Rattle.syntax.specs.PaletteLaws.{CallOk, PaletteOk}
+use Rattle.syntax.proofs.PaletteLaws.{palette_code}
 use Rattle.readblock.specs.declared.BlockRead.{BlockRead}
 use Rattle.readblock.specs.Read.{call_for, cu_read, refused_of, answer_of}
 use Rattle.readblock.specs.Made.{pal_of, top_of, levels_to, rest_at, made_with, made_of}

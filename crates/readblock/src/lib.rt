@@ -1,4 +1,6 @@
 // The reader of a palette block and its runs from a list of bins.
+#![tactic(auto)]
+
 ghost use Rattle.std.specs.Prelude.{◌≡◌, [], ◌+◌, ◌-◌, ◌*◌, ◌≤◌, take};
 ghost use Rattle.base.specs.Lists.{padded};
 ghost use Rattle.getruns.specs.As.{RestBlank};
@@ -19,7 +21,7 @@ use model::{Color, Levels, PaletteCu, PaletteRun};
 use replay::replay_runs;
 
 // A refusal's number and place; or 0, the block, its first `count` runs and the number of bins used.
-#[derive(Drop)]
+#[derive(Clone, Copy)]
 pub struct BlockRead {
     pub refusal: u8,
     pub place: usize,

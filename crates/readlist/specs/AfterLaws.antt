@@ -19,7 +19,8 @@ use Rattle.read.specs.Reading.{formats_in, sizes_in, read_refusal, call_with, re
 use Rattle.readblock.specs.declared.BlockRead.{BlockRead}
 use Rattle.readblock.specs.Read.{refused_of, answer_of}
 use Rattle.syntax.specs.Block.{Call, Told, Map, cells_in, max_index, palette_of, read_block}
-use Rattle.syntax.specs.BlockLaws.{ToldOk, block_code}
+use Rattle.syntax.specs.BlockLaws.{ToldOk}
+use Rattle.syntax.proofs.BlockLaws.{block_code}
 use Rattle.syntax.specs.KeepLaws.{keeps-count}
 use Rattle.syntax.specs.PaletteLaws.{CallOk}
 use Rattle.syntax.specs.Records.{no_run}

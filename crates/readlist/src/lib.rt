@@ -1,4 +1,6 @@
 // The reader of a palette block, with a list of run records that the caller lends.
+#![tactic(auto)]
+
 ghost use Rattle.std.specs.Prelude.{◌≡◌, ◌≤◌, length};
 ghost use Rattle.readlist.specs.After.{cu_read_of, counted_of, runs_after};
 
@@ -6,7 +8,7 @@ use model::{PaletteCu, PalettePredictor, PaletteRun};
 use runlist::lay_runs;
 
 // A refusal's number and place; or 0, the block, the number of its runs and the number of bins used.
-#[derive(Drop)]
+#[derive(Clone, Copy)]
 pub struct CuRead {
     pub refusal: u8,
     pub place: usize,
@@ -16,7 +18,7 @@ pub struct CuRead {
 }
 
 // A reader's answer, and the runs to be laid.
-#[derive(Drop)]
+#[derive(Clone, Copy)]
 pub struct Counted {
     pub answer: CuRead,
     pub count: usize,

@@ -10,7 +10,7 @@ use Rattle.std.proofs.Math.Dec.{eqb}
 use borrow.Author.Tests.{lt-ltb, le-ltb, eqb-true, eqb-false}
 use Rattle.base.specs.Pick.{pick, either, lt_or_le}
 use Rattle.h265.specs.Scan.{above_at}
-use Rattle.paths.specs.Cells.{copies, index_len, above_len, stops_at}
+use Rattle.paths.specs.Cells.{copies, index_length, above_length, stops_at}
 use Rattle.paths.specs.CellLaws.{index_le, index-some, above_zero, above-some, stops-next}
 use Rattle.paths.specs.Stretch.{next_stretch, next_ge, next-end, next-none, next-stops, next_none_after, next_stops_after, stopped-end, stopped-one, stopped-skip}
 use Rattle.paths.specs.Plan.{Table, slot, relaxed, stopped}
@@ -80,8 +80,8 @@ first-low al ss n p s h =
 -- what the tables hold: the cells above, how far an index goes on, how many cells can be copied, where the next stretch begins
 pub record Tables (size n : ℕ) (xs above il al ss : List ℕ) : Type 0 where
   pub above_is : (i : ℕ) → i < n → get_or above i 0 ≡ above_at size xs i
-  pub il_is : (i : ℕ) → i < n → get_or il i 0 ≡ index_len n xs i
-  pub al_is : (i : ℕ) → i ≤ n → get_or al i 0 ≡ above_len size n xs i
+  pub il_is : (i : ℕ) → i < n → get_or il i 0 ≡ index_length n xs i
+  pub al_is : (i : ℕ) → i ≤ n → get_or al i 0 ≡ above_length size n xs i
   pub ss_is : (i : ℕ) → 1 ≤ i → i ≤ n → get_or ss i 0 ≡ next_stretch size n xs i
 
 module _ (size n : ℕ) (xs above il al ss : List ℕ) (t : Tables size n xs above il al ss) (p : ℕ) (ph : p < n) where
@@ -120,14 +120,14 @@ module _ (size n : ℕ) (xs above il al ss : List ℕ) (t : Tables size n xs abo
 
   -- the table of jumps gives the planner's index runs
   pub drawn_is : (g : ℕ → Float) (k : Bool) (u : Table)
-      → drawn il al ss g p k u ≡ relaxed (stopped (stops_at size xs p) g p k (p + index_len n xs p - (p + 1)) (p + 1) u) (slot (p + index_len n xs p) false) (g (p + index_len n xs p)) p k
+      → drawn il al ss g p k u ≡ relaxed (stopped (stops_at size xs p) g p k (p + index_length n xs p - (p + 1)) (p + 1) u) (slot (p + index_length n xs p) false) (g (p + index_length n xs p)) p k
   unfolding drawn
   drawn_is g k u =
       let high = index_le n xs p (omega arith) in
-      let e : halted (p + index_len n xs p) ss (p + index_len n xs p) g p k (first_stop al ss p) u ≡ stopped (stops_at size xs p) g p k (p + index_len n xs p - (p + 1)) (p + 1) u =
-      jumps ss (p + index_len n xs p) g p k (stops_at size xs p) (skips (p + index_len n xs p) high) (p + index_len n xs p) (first_stop al ss p) u (omega arith)
+      let e : halted (p + index_length n xs p) ss (p + index_length n xs p) g p k (first_stop al ss p) u ≡ stopped (stops_at size xs p) g p k (p + index_length n xs p - (p + 1)) (p + 1) u =
+      jumps ss (p + index_length n xs p) g p k (stops_at size xs p) (skips (p + index_length n xs p) high) (p + index_length n xs p) (first_stop al ss p) u (omega arith)
       (λ l. first_stops (omega arith))
       (λ i a b r c d. next-none size n xs p (i + 1) r (omega (arith, first_after)) c (rw (t.ss_is (i + 1) (omega arith) (omega arith)) at d))
       (λ i a b c. rw (t.ss_is (i + 1) (omega arith) (omega arith)) (next-stops size n xs p (i + 1) (omega (arith, first_after)) (omega arith) (omega (arith, rw (t.ss_is (i + 1) (omega arith) (omega arith)) at c))))
-      ∙ sym (stopped-skip (stops_at size xs p) g p k (p + index_len n xs p) (p + 1) (first_stop al ss p) u (omega (arith, first_after)) (λ i a b. first_none n (omega arith) i a b)) in
+      ∙ sym (stopped-skip (stops_at size xs p) g p k (p + index_length n xs p) (p + 1) (first_stop al ss p) u (omega (arith, first_after)) (λ i a b. first_none n (omega arith) i a b)) in
       rw (t.il_is p ph, e)

@@ -8,7 +8,7 @@ use Rattle.syntax.specs.Runs.{Run, Keeps}
 use Rattle.syntax.specs.KeepLaws.{keeps_le}
 use Rattle.h265.specs.Scan.{above_at}
 use Rattle.syntax.specs.Replay.{reference, copy_cells, index_of, replay}
-use Rattle.syntax.specs.ReplayLaws.{above-take, reference-take}
+use Rattle.syntax.proofs.ReplayLaws.{above-take, reference-take}
 
 unfoldable pub copy_into : ℕ → ℕ → ℕ → List ℕ → List ℕ
 copy_into size zero i xs = xs

@@ -1,4 +1,6 @@
 // The cells that a reader makes of a run list.
+#![tactic(auto)]
+
 ghost use Rattle.std.specs.Prelude.{◌≡◌, false, [], ◌+◌, ◌-◌, ◌≤◌, ◌<◌, take};
 ghost use Rattle.base.specs.Codes.{All};
 ghost use Rattle.base.specs.Lists.{padded};

@@ -1,10 +1,12 @@
 // Representatives of a block's colours; a colour is a packed number.
+#![tactic(auto)]
+
 ghost use Rattle.std.specs.Prelude.{◌≡◌, false, ℕ, ◌<◌, ◌≤◌, leb, length, take, get_or};
 ghost use Rattle.quant.specs.Quant.{gap};
 ghost use Rattle.reps.specs.Reps.{within, hit_of, reps, listed, Joined};
 
 // At most 64 colours; 0 behind them.
-#[derive(Drop)]
+#[derive(Clone, Copy)]
 pub struct Reps {
     pub count: usize,
     pub list: [u64; 64],

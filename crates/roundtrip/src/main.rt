@@ -1,4 +1,6 @@
 // Takes blocks of a small land-cover map from planes to bins and back, with predictors carried from block to block on both sides, and compares every cell. Prints a line for each block, and the sums; held to the file `stdout`.
+#![tactic(auto)]
+
 ghost use Rattle.std.specs.Prelude.{◌≡◌, ◌+◌, ◌≤◌, min};
 
 use compare::{differing, differing_cells, differing_samples, number};
@@ -10,10 +12,10 @@ use exports_recon::velomitra_reconstruct;
 use exports_update::velomitra_update;
 use exports_write::velomitra_write_palette_cu;
 use landcover::{Series, config, depth, geometry, plane, side, size_of, spot};
-use libc::STDOUT_FILENO;
+use std::io;
 
 // A call's answer: refusal or 0, runs, bins.
-#[derive(Drop)]
+#[derive(Clone, Copy)]
 pub struct Sent {
     pub refusal: u8,
     pub runs: usize,
@@ -163,46 +165,45 @@ fn samples(y: &[u16], cb: &[u16], cr: &[u16], s: Series, at: [u16; 3], back: &[u
 }
 
 // Words and a number.
-fn say(words: &[u8], n: u64) {
-    io::write_all(STDOUT_FILENO, words);
-    io::print_decimal(STDOUT_FILENO, n);
+fn say(rt: &impl Print, words: &str, n: u64) -> io::Result<()> {
+    print!(rt; "{words}{n}")
 }
 
 // What a series is.
-fn say_series(s: Series) {
-    say(b"format ", s.format as u64);
-    say(b" depth ", depth(s.deep) as u64);
+fn say_series(rt: &impl Print, s: Series) -> io::Result<()> {
+    say(rt, "format ", s.format as u64)?;
+    say(rt, " depth ", depth(s.deep) as u64)?;
     if s.lossless {
-        io::write_all(STDOUT_FILENO, b" lossless");
-    } else {
-        io::write_all(STDOUT_FILENO, b" qp 22");
+        return rt.print(" lossless");
     }
+    rt.print(" qp 22")
 }
 
 // What a block is.
-fn say_block(at: [u16; 3], turned: bool) {
-    say(b" block ", at[2] as u64);
-    say(b" at ", at[0] as u64);
-    say(b" ", at[1] as u64);
+fn say_block(rt: &impl Print, at: [u16; 3], turned: bool) -> io::Result<()> {
+    say(rt, " block ", at[2] as u64)?;
+    say(rt, " at ", at[0] as u64)?;
+    say(rt, " ", at[1] as u64)?;
     if turned {
-        io::write_all(STDOUT_FILENO, b" turned");
+        return rt.print(" turned");
     }
+    Ok(())
 }
 
 // What a block took.
-fn say_sent(entries: u16, sent: Sent) {
-    say(b": entries ", entries as u64);
-    say(b" runs ", sent.runs as u64);
-    say(b" bins ", sent.bins as u64);
+fn say_sent(rt: &impl Print, entries: u16, sent: Sent) -> io::Result<()> {
+    say(rt, ": entries ", entries as u64)?;
+    say(rt, " runs ", sent.runs as u64)?;
+    say(rt, " bins ", sent.bins as u64)
 }
 
 // What differs: cells, what is beside them, predictors, samples of the map.
-fn say_found(found: [u64; 4]) {
-    say(b"; differing cells ", found[0]);
-    say(b" others ", found[1]);
-    say(b" predictors ", found[2]);
-    say(b" samples ", found[3]);
-    io::write_all(STDOUT_FILENO, b"\n");
+fn say_found(rt: &impl Print, found: [u64; 4]) -> io::Result<()> {
+    say(rt, "; differing cells ", found[0])?;
+    say(rt, " others ", found[1])?;
+    say(rt, " predictors ", found[2])?;
+    say(rt, " samples ", found[3])?;
+    println!(rt)
 }
 
 // The sums: blocks, refused, cells, differing cells, others and predictors; samples of lossless blocks.
@@ -221,6 +222,7 @@ fn count(sums: &mut [u64], size: usize, lossless: bool, found: [u64; 4])
 
 // A block to bins and back: what differs. The bins that follow it are of no class, so that a reader who looked at one would refuse.
 fn carry(
+    rt: &impl Print,
     y: &[u16],
     cb: &[u16],
     cr: &[u16],
@@ -230,21 +232,22 @@ fn carry(
     cu: &[u16],
     enc: &mut [u16],
     dec: &mut [u16],
-) -> [u64; 4] {
+) -> io::Result<[u64; 4]> {
     let mut bins = [255u8; 32768];
     let mut back = [0u16; 4432];
     let size = size_of(at);
     let sent = send(cu, &mut bins);
     let got = receive(&bins, size, s, dec, &mut back);
-    say_sent(number(cu, 5), sent);
+    say_sent(rt, number(cu, 5), sent)?;
     let cells = differing_cells(cu, &back, size, s.format, turned) as u64;
     let rest = others(cu, &back, sent, got);
     let steps = predictors(enc, dec, cu, &back);
-    [cells, rest, steps, samples(y, cb, cr, s, at, &back)]
+    Ok([cells, rest, steps, samples(y, cb, cr, s, at, &back)])
 }
 
 // The line of a block.
 fn line(
+    rt: &impl Print,
     y: &[u16],
     cb: &[u16],
     cr: &[u16],
@@ -254,24 +257,26 @@ fn line(
     enc: &mut [u16],
     dec: &mut [u16],
     sums: &mut [u64],
-) {
+) -> io::Result<()> {
     let mut cu = [0u16; 4432];
-    say_series(s);
-    say_block(at, turned);
+    say_series(rt, s)?;
+    say_block(rt, at, turned)?;
     let r = make(y, cb, cr, s, at, turned, enc, &mut cu);
     if r == 0 {
-        let found = carry(y, cb, cr, s, at, turned, &cu, enc, dec);
-        say_found(found);
+        let found = carry(rt, y, cb, cr, s, at, turned, &cu, enc, dec)?;
+        say_found(rt, found)?;
         count(sums, size_of(at), s.lossless, found);
     } else {
-        say(b": refused ", r as u64);
-        io::write_all(STDOUT_FILENO, b"\n");
+        say(rt, ": refused ", r as u64)?;
+        println!(rt)?;
         add(sums, 1, 1);
     }
+    Ok(())
 }
 
 // The blocks of a series, each as it is and transposed.
 fn lines(
+    rt: &impl Print,
     y: &[u16],
     cb: &[u16],
     cr: &[u16],
@@ -279,27 +284,26 @@ fn lines(
     enc: &mut [u16],
     dec: &mut [u16],
     sums: &mut [u64],
-) {
-    let mut k: usize = 0;
-    while k < 24 {
-        line(y, cb, cr, s, spot(k / 2), k % 2 == 1, enc, dec, sums);
-        k += 1;
+) -> io::Result<()> {
+    for k in 0..24 {
+        line(rt, y, cb, cr, s, spot(k / 2), k % 2 == 1, enc, dec, sums)?;
     }
+    Ok(())
 }
 
 // A series: the map in its format and depth, empty predictors on both sides.
-fn map_lines(s: Series, sums: &mut [u64]) {
+fn map_lines(rt: &impl Print, s: Series, sums: &mut [u64]) -> io::Result<()> {
     let half = s.format == 1;
     let y = plane(false, 37, s.deep);
     let cb = plane(half, 71, s.deep);
     let cr = plane(half, 113, s.deep);
     let mut enc = [0u16; 385];
     let mut dec = [0u16; 385];
-    lines(&y, &cb, &cr, s, &mut enc, &mut dec, sums);
+    lines(rt, &y, &cb, &cr, s, &mut enc, &mut dec, sums)
 }
 
 // The series of a format: 8 and 10 bits, lossless and not.
-fn format_lines(format: u8, sums: &mut [u64]) {
+fn format_lines(rt: &impl Print, format: u8, sums: &mut [u64]) -> io::Result<()> {
     let a = Series {
         format,
         deep: false,
@@ -320,28 +324,28 @@ fn format_lines(format: u8, sums: &mut [u64]) {
         deep: true,
         lossless: false,
     };
-    map_lines(a, sums);
-    map_lines(b, sums);
-    map_lines(c, sums);
-    map_lines(d, sums);
+    map_lines(rt, a, sums)?;
+    map_lines(rt, b, sums)?;
+    map_lines(rt, c, sums)?;
+    map_lines(rt, d, sums)
 }
 
 // The sums.
-fn say_sums(sums: [u64; 6]) {
-    say(b"blocks ", sums[0]);
-    say(b" refused ", sums[1]);
-    say(b" cells ", sums[2]);
-    say(b"; differing cells ", sums[3]);
-    say(b" others and predictors ", sums[4]);
-    say(b" samples of lossless blocks ", sums[5]);
-    io::write_all(STDOUT_FILENO, b"\n");
+fn say_sums(rt: &impl Print, sums: [u64; 6]) -> io::Result<()> {
+    say(rt, "blocks ", sums[0])?;
+    say(rt, " refused ", sums[1])?;
+    say(rt, " cells ", sums[2])?;
+    say(rt, "; differing cells ", sums[3])?;
+    say(rt, " others and predictors ", sums[4])?;
+    say(rt, " samples of lossless blocks ", sums[5])?;
+    println!(rt)
 }
 
 // The lines of every format, and the sums.
-fn main() {
+fn main(rt: HostRuntime) -> io::Result<()> {
     let mut sums = [0u64; 6];
-    format_lines(0, &mut sums);
-    format_lines(1, &mut sums);
-    format_lines(3, &mut sums);
-    say_sums(sums);
+    format_lines(&rt, 0, &mut sums)?;
+    format_lines(&rt, 1, &mut sums)?;
+    format_lines(&rt, 3, &mut sums)?;
+    say_sums(&rt, sums)
 }

@@ -7,7 +7,7 @@ use Rattle.syntax.specs.Runs.{Run, may_copy}
 use Rattle.syntax.specs.Replay.{reference, less_one}
 use Rattle.h265.specs.Scan.{row_of, above_at}
 use Rattle.h265.specs.ScanLaws.{place_row, above-closed}
-use Rattle.syntax.specs.ReplayLaws.{above-take, replays_le}
+use Rattle.syntax.proofs.ReplayLaws.{above-take, replays_le}
 use Rattle.syntax.specs.Test.{both, copied, drawn, sent_right, rules, replays, replays-rules}
 use Rattle.rules.specs.Collect.{both_and, both_assoc, both_false, or_none}
 

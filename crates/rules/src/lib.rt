@@ -1,4 +1,6 @@
 // Refusal 8: the test of a run list against the block's indices.
+#![tactic(auto)]
+
 ghost use Rattle.std.specs.Prelude.{◌≡◌, false, ℕ, ◌+◌, ◌-◌, ◌*◌, ◌%◌, ◌^◌, ◌≤◌, ◌<◌, eqb, length, take, drop, get_or};
 ghost use Rattle.base.specs.Pick.{pick};
 ghost use Rattle.flatplan.specs.Flat.{first_of};

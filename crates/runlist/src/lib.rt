@@ -1,4 +1,6 @@
 // Run records between a list that the caller lends and the arrays of 1024 that the codec works on.
+#![tactic(auto)]
+
 ghost use Rattle.std.specs.Prelude.{◌≡◌, ◌≤◌, min, length, replicate};
 ghost use Rattle.syntax.specs.Records.{no_run};
 ghost use Rattle.runlist.specs.Lists.{laid_on};

@@ -1,4 +1,6 @@
 // What the writer and the reader of runs share: the reference of an index run, the alphabet of an index, and when a run is the last.
+#![tactic(auto)]
+
 ghost use Rattle.std.specs.Prelude.{◌≡◌, ◌+◌, ◌≤◌, ◌<◌, eqb};
 ghost use Rattle.base.specs.Pick.{pick};
 ghost use Rattle.h265.specs.Scan.{above_at};

@@ -1,4 +1,6 @@
 // The samples of a block from lent planes, as packed colours, row by row from the left.
+#![tactic(auto)]
+
 ghost use Rattle.std.specs.Prelude.{◌≡◌, Bool, true, false, ℕ, ◌+◌, ◌-◌, ◌*◌, ◌/◌, ◌%◌, ◌<◌, ◌≤◌, min, length};
 ghost use Rattle.base.specs.Cells.{laid};
 ghost use Rattle.model.specs.Domain.{sub_w, sub_h, source_in, planes_in};

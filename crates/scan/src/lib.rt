@@ -1,9 +1,11 @@
 // The traverse scan: the cell of a scan place, the scan place of a cell, and the cell above.
+#![tactic(auto)]
+
 ghost use Rattle.std.specs.Prelude.{◌≡◌, ◌≤◌, ◌<◌};
 ghost use Rattle.h265.specs.Scan as S;
 
 // A cell of a block.
-#[derive(Drop)]
+#[derive(Clone, Copy)]
 pub struct Pos {
     pub col: usize,
     pub row: usize,

@@ -1,4 +1,6 @@
 // Smoothing an index map: what recolouring one cell costs, over lent arrays along the scan.
+#![tactic(auto)]
+
 ghost use Rattle.std.specs.Prelude.{◌≡◌, Bool, true, false, ℕ, ◌<◌, ◌≤◌, pos, length, get_or};
 ghost use Rattle.std.specs.Float.{binary32};
 ghost use Rattle.std.specs.Float.Ieee.{of_int};

@@ -1,4 +1,6 @@
 // Smoothing of a block's index map, after the refusals.
+#![tactic(auto)]
+
 ghost use Rattle.std.specs.Prelude.{◌≡◌, true, ℕ, ◌≤◌};
 ghost use Rattle.model.specs.Domain.{config_in};
 ghost use Rattle.figure.specs.Laws.{in_rows};
@@ -8,7 +10,7 @@ ghost use Rattle.smoothblock.specs.Block.{mapped, answer};
 use model::{PaletteConfig, PaletteCu};
 
 // A refusal's number and the block as it came, or 0, whether a run was moved, and the block made.
-#[derive(Drop)]
+#[derive(Clone, Copy)]
 pub struct Smoothed {
     pub refusal: u8,
     pub changed: bool,

@@ -1,4 +1,6 @@
 // Smoothing an index map: the length of a run, and what recolouring it costs, over lent arrays along the scan.
+#![tactic(auto)]
+
 ghost use Rattle.std.specs.Prelude.{◌≡◌, ℕ, ◌+◌, ◌<◌, ◌≤◌, length, get_or};
 ghost use Rattle.base.specs.Tests.{up_to};
 ghost use Rattle.h265.specs.Scan as S;

@@ -1,4 +1,6 @@
 // Smoothing of a block's index map.
+#![tactic(auto)]
+
 ghost use Rattle.std.specs.Prelude.{◌≡◌};
 ghost use Rattle.smoothing.specs.Smoothing.{kind_in, smooth_of};
 

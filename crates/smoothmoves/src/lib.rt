@@ -1,4 +1,6 @@
 // Smoothing an index map: whether a run may be moved, and the moves, over lent arrays along the scan.
+#![tactic(auto)]
+
 ghost use Rattle.std.specs.Prelude.{◌≡◌, ℕ, ◌+◌, ◌≤◌, length};
 ghost use Rattle.base.specs.Cells.{laid};
 ghost use Rattle.smooth.specs.Smooth as D;

@@ -1,4 +1,6 @@
 // Smoothing an index map: one run after another, over lent arrays along the scan.
+#![tactic(auto)]
+
 ghost use Rattle.std.specs.Prelude.{◌≡◌, ℕ, ◌+◌, ◌≤◌, length};
 ghost use Rattle.smooth.specs.Smooth as D;
 

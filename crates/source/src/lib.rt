@@ -1,4 +1,6 @@
 // The refusals of a call that is given planes, and the colours of its block.
+#![tactic(auto)]
+
 ghost use Rattle.std.specs.Prelude.{◌≡◌, Bool, true, false, [], ◌∷◌, ℕ, ◌*◌, ◌≤◌, length, get_or};
 ghost use Rattle.base.specs.Tests.{refusal};
 ghost use Rattle.model.specs.Domain.{depth_in, most};

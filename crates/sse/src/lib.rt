@@ -1,4 +1,6 @@
 // The error figure of a block.
+#![tactic(auto)]
+
 ghost use Rattle.std.specs.Prelude.{◌≡◌, true, ◌≤◌};
 ghost use Rattle.model.specs.Domain.{config_in};
 ghost use Rattle.levels.specs.Levels.{scale_of};
@@ -9,7 +11,7 @@ ghost use Rattle.sse.specs.Sse.{block_in, sse_of};
 use model::{PaletteConfig, PaletteCu, SourceBlock};
 
 // A refusal's number, or 0 and the error figure.
-#[derive(Drop)]
+#[derive(Clone, Copy)]
 pub struct Figure {
     pub refusal: u8,
     pub sse: u64,

@@ -10,7 +10,7 @@ use Rattle.base.specs.Upto.{number}
 use Rattle.rates.specs.Rates.{index_rate}
 use Rattle.sums.specs.Sums.{row_of, run_from}
 use Rattle.syntax.specs.Runs.{may_copy}
-use Rattle.paths.specs.Cells.{copies, index_len, above_len, draws, sent_for, stops_at}
+use Rattle.paths.specs.Cells.{copies, index_length, above_length, draws, sent_for, stops_at}
 use Rattle.paths.specs.CellLaws.{above_zero, above-some}
 use Rattle.paths.specs.Plan.{Price, Job, job, Table, slot, flag_rate, alphabet_at, head_rate, draw_cost, copy_cost, relaxed, stopped, indexed, copied}
 use Rattle.relax.specs.Jumps.{length_from, copy_from, drawn}
@@ -52,12 +52,12 @@ module _ (size n most : ℕ) (xs : List ℕ) (short full : List Float) (r0 r1 sh
   unfolding copied
   copy_low e h = rw (e, lt-leb size p h)
 
-  pub copy_none : k ≡ false → size ≤ p → p < n → above_len size n xs p ≡ 0 → t ≡ copied (job size n most xs (price_in short full r0 r1 share)) p k c t
+  pub copy_none : k ≡ false → size ≤ p → p < n → above_length size n xs p ≡ 0 → t ≡ copied (job size n most xs (price_in short full r0 r1 share)) p k c t
   unfolding copied
   copy_none e h g z = rw (e, le-leb size p h, above_zero size n xs p g z)
 
-  pub copy_yes : k ≡ false → size ≤ p → p < n → (above_len size n xs p ≡ 0 → ⊥)
-      → relaxed t (slot (p + above_len size n xs p) true) (add binary32 c (copy_from short full r1 n p (p + above_len size n xs p))) p k ≡ copied (job size n most xs (price_in short full r0 r1 share)) p k c t
+  pub copy_yes : k ≡ false → size ≤ p → p < n → (above_length size n xs p ≡ 0 → ⊥)
+      → relaxed t (slot (p + above_length size n xs p) true) (add binary32 c (copy_from short full r1 n p (p + above_length size n xs p))) p k ≡ copied (job size n most xs (price_in short full r0 r1 share)) p k c t
   unfolding copied copy_cost copy_from row_of
   copy_yes e h g z = rw (e, le-leb size p h, above-some size n xs p g z)
 

@@ -1,11 +1,13 @@
 // The runs that start at one place: what they add to a path's cost, and their offers to the planner's table.
+#![tactic(auto)]
+
 ghost use Rattle.std.specs.Prelude.{◌≡◌, Bool, true, false, List, [], ◌∷◌, ℕ, ◌+◌, ◌≤◌, ◌<◌, ltb, get_or};
 ghost use Rattle.std.specs.Float.{binary32};
 ghost use Rattle.std.specs.Float.Ieee.{add};
 ghost use Rattle.base.specs.Pick.{pick};
 ghost use Rattle.base.specs.Tests.{every};
 ghost use Rattle.base.specs.Upto.{number};
-ghost use Rattle.paths.specs.Cells.{above_len};
+ghost use Rattle.paths.specs.Cells.{above_length};
 ghost use Rattle.paths.specs.Plan as P;
 ghost use Rattle.paths.specs.Plan.{tab};
 ghost use Rattle.relax.specs.JumpLaws.{Tables};
@@ -21,7 +23,7 @@ use relax::copy;
 use sums::row_of;
 
 // The size and the number of the cells, the greatest index, and what the runs' kinds and an index run's share of the count cost.
-#[derive(Drop)]
+#[derive(Clone, Copy)]
 pub struct Terms {
     pub size: usize,
     pub n: usize,
@@ -157,7 +159,7 @@ pub fn above_run(
     c: f32,
 )
     requires { (p < t.n) × (t.n ≤ 1024) × (p + get_or above_len.now p 0 ≤ t.n) }
-    ensures { (xs : List ℕ) → get_or above_len.now p 0 ≡ above_len t.size t.n xs p
+    ensures { (xs : List ℕ) → get_or above_len.now p 0 ≡ above_length t.size t.n xs p
         → tab cost.new pos.new st.new
         ≡ P.copied (job_in t xs short.now full.now) p k c (tab cost.old pos.old st.old) }
 {

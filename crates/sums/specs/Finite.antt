@@ -9,7 +9,7 @@ use Rattle.base.specs.Tests.{every, up_to, up_to-at}
 use Rattle.base.specs.Upto.{Upto, number, number_upto, within_upto, add_upto, weaken, share_upto}
 use Rattle.bins.specs.Logarithm.{flog-most}
 use Rattle.h265.specs.Strings.{bits, flog, short, tb, rice_of, run_class, prefix_of, suffixes}
-use Rattle.h265.specs.RunLaws.{prefix_most}
+use Rattle.h265.proofs.RunLaws.{prefix_most}
 use Rattle.h265.specs.StringLaws.{length-bits, flog-low}
 use Rattle.rates.specs.declared.RateModel.{RateModel}
 use Rattle.rates.specs.declared.Pair.{Pair}

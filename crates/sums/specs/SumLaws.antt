@@ -13,7 +13,7 @@ use Rattle.base.specs.Powers.{pow_next, exp_lt}
 use Rattle.base.specs.Upto.{number}
 use Rattle.bins.specs.Logarithm.{flog-most, suffixes-all}
 use Rattle.h265.specs.Strings.{bits, flog, short, unary, run_class, prefix_of, suffixes}
-use Rattle.h265.specs.RunLaws.{prefix_most}
+use Rattle.h265.proofs.RunLaws.{prefix_most}
 use Rattle.h265.specs.StringLaws.{length-bits, flog-low, flog-high, flog-is}
 use Rattle.rates.specs.declared.RateModel.{RateModel}
 use Rattle.rates.specs.declared.Pair.{Pair}

@@ -1,4 +1,6 @@
 // The two tables of sums, made once for a model: what the prefixes of the runs' lengths cost.
+#![tactic(auto)]
+
 ghost use Rattle.std.specs.Prelude.{◌≡◌, ◌+◌, ◌*◌, ◌≤◌, ◌<◌};
 ghost use Rattle.sums.specs.Sums.{row_of, full_sum, with_bits, short_sum, Sums};
 ghost use Rattle.sums.specs.SumLaws.{row_laid};
@@ -7,14 +9,14 @@ use bins::run_class;
 use rates::{RateModel, bin_rate, number};
 
 // A row for each kind of run: what k ones cost, ended by a zero with the suffix of such a run, and not ended.
-#[derive(Drop)]
+#[derive(Clone, Copy)]
 pub struct RunSums {
     pub short: [f32; 48],
     pub full: [f32; 48],
 }
 
 // What k ones cost ended, and what k + 1 ones cost.
-#[derive(Drop)]
+#[derive(Clone, Copy)]
 struct Step {
     ended: f32,
     next: f32,

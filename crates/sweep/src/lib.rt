@@ -1,4 +1,6 @@
 // The sweep over the planner's table: every slot in order, and from each that is reached the runs that start there.
+#![tactic(auto)]
+
 ghost use Rattle.std.specs.Prelude.{◌≡◌, ◌*◌, ◌≤◌, ◌<◌};
 ghost use Rattle.paths.specs.Plan as P;
 ghost use Rattle.paths.specs.Plan.{tab, job};

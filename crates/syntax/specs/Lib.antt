@@ -14,7 +14,5 @@ pub mod Test
 pub mod RunTurns
 pub mod Entry
 pub mod BlockPlaces
-pub mod Figures
 pub mod Records
-pub mod Ready
 pub mod EachTurns

@@ -49,7 +49,7 @@ module _ (xs : List ℕ) (n : ℕ) where
 -- ---- how the answers come about
 
 module _ (xs : List ℕ) (n shift g g' : ℕ) (e : g' ≡ generation_of g) (found : Census) (v : found ≡ census_of xs n) where
-  -- too many: the luma pre_check_lem says whether the counter moves
+  -- too many: the luma pre-check says whether the counter moves
   pub many : (none : Census) → none ≡ census 0 [] [] → too_many found.distinct n ≡ true → (limit : ℕ) → limit ≡ min (n / 2) 128 → (kept : Bool) → kept ≡ ltb limit (length (met_by (coarse shift) xs n))
       → ◌≡◌ {A = Counted} (record { answer = 13; kept = kept; generation = g'; colors = none }) (counted_of xs n shift g)
   unfolding counted_of pre_check
@@ -58,7 +58,7 @@ module _ (xs : List ℕ) (n shift g g' : ℕ) (e : g' ≡ generation_of g) (foun
       let q : kept ≡ ltb (min (n / 2) 128) (length (met_by (coarse shift) xs n)) = k ∙ rw l in
       rw b (λ i. record { answer = 13; kept = q i; generation = e i; colors = z i })
 
-  -- not too many: then the pre_check_lem refuses nothing
+  -- not too many: then the pre-check refuses nothing
   pub counted : too_many found.distinct n ≡ false → ◌≡◌ {A = Counted} (record { answer = 0; kept = false; generation = g'; colors = found }) (counted_of xs n shift g)
   unfolding counted_of pre_check
   counted h =
@@ -94,7 +94,7 @@ moved_wide ks es ss ks' es' ss' g xs n a b c e =
     let w = table_wide (tab ks es (stamps_of g ss)) (generation_of g) xs n in
     (ap (λ (t : Table). length t.keys) e ∙ w.0 ∙ a, ap (λ (t : Table). length t.entry) e ∙ w.1 ∙ b, ap (λ (t : Table). length t.stamp) e ∙ w.2 ∙ stamps_length g ss c)
 
--- where the pre_check_lem refuses, the count refuses
+-- where the pre-check refuses, the count refuses
 pub kept-many : (xs : List ℕ) (n shift : ℕ) → pre_check xs n shift ≡ true → too_many (length (met xs n)) n ≡ true
 unfolding pre_check
 kept-many xs n shift h = pre_check_lem (coarse shift) xs n (ltb-true _ _ h)

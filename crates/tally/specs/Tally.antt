@@ -9,7 +9,7 @@ use Rattle.census.specs.declared.Census.{Census}
 use Rattle.tally.specs.declared.Counted.{Counted}
 use Rattle.tally.specs.declared.Tally.{Tally}
 
--- the luma pre_check_lem refuses: more luma values of 8 bits than half the samples, or than 128
+-- the luma pre-check refuses: more luma values of 8 bits than half the samples, or than 128
 unfoldable pub pre_check : List ℕ → ℕ → ℕ → Bool
 pre_check xs n shift = ltb (min (n / 2) 128) (length (met_by (coarse shift) xs n))
 
@@ -24,7 +24,7 @@ moved_to keys entry stamp g xs n = table_to (tab keys entry (stamps_of g stamp))
 unfoldable pub moved : ColorIndex → List ℕ → ℕ → ColorIndex
 moved c xs n = index_at (moved_to c.keys c.entry c.stamp c.generation xs n) (generation_of c.generation)
 
--- the counter after a block: moved on, unless the luma pre_check_lem refused
+-- the counter after a block: moved on, unless the luma pre-check refused
 unfoldable pub index_of : ColorIndex → List ℕ → ℕ → ℕ → ColorIndex
 index_of c xs n shift = pick (pre_check xs n shift) c (moved c xs n)
 

@@ -1,4 +1,6 @@
 // A block's colours and their counts, or refusal 13; and the colour counter after it.
+#![tactic(auto)]
+
 ghost use Rattle.std.specs.Prelude.{◌≡◌, true, [], ℕ, ◌/◌, ◌≤◌, min, length};
 ghost use Rattle.colors.specs.Table.{tab, none_above};
 ghost use Rattle.census.specs.Census.{census, too_many};
@@ -8,7 +10,7 @@ use census::Census;
 use colors::ColorIndex;
 
 // 0 and a block's colours, or 13 and none; and the counter after it.
-#[derive(Drop)]
+#[derive(Clone, Copy)]
 pub struct Tally {
     pub answer: u32,
     pub colors: Census,
@@ -16,7 +18,7 @@ pub struct Tally {
 }
 
 // The same; whether the counter was to be kept; and its generation if not.
-#[derive(Drop)]
+#[derive(Clone, Copy)]
 pub struct Counted {
     pub answer: u32,
     pub kept: bool,
@@ -56,7 +58,7 @@ fn no_colors() -> Census
     }
 }
 
-// 0 and the colours of n samples, or 13 and none. The lent counter moves on; whether it was to be kept, since the luma pre_check_lem refuses, is told.
+// 0 and the colours of n samples, or 13 and none. The lent counter moves on; whether it was to be kept, since the luma pre-check refuses, is told.
 pub fn count_on(
     samples: &[u64; 1024],
     n: usize,

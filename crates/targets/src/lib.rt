@@ -1,4 +1,6 @@
 // The refusals 1 to 3 of a call that is given target planes.
+#![tactic(auto)]
+
 ghost use Rattle.std.specs.Prelude.{◌≡◌};
 ghost use Rattle.base.specs.Tests.{refusal};
 ghost use Rattle.targets.specs.Targets.{plane_in, target_in, target_tests};

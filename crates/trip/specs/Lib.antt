@@ -1,11 +1,6 @@
 pub mod Demand
 pub mod Suit
 pub mod Levels
-pub mod Written
 pub mod Covers
-pub mod Trip
-pub mod Lent
-pub mod Step
 pub mod Accepted
-pub mod Made
 pub mod Figures

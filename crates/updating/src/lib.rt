@@ -1,4 +1,6 @@
 // The palette predictor, lent to its update and changed there.
+#![tactic(auto)]
+
 ghost use Rattle.std.specs.Prelude.{◌≡◌};
 ghost use Rattle.predictor.specs.Update.{update_of};
 

@@ -1,4 +1,6 @@
 // The walk back over the planner's table, and the runs of the path that it finds.
+#![tactic(auto)]
+
 ghost use Rattle.std.specs.Prelude.{◌≡◌, Bool, true, false, ℕ, ◌+◌, ◌-◌, ◌≤◌, ◌<◌, get_or, replicate};
 ghost use Rattle.std.proofs.lemmas.List.Edits.{sets};
 ghost use Rattle.paths.specs.Plan.{slot, trail};

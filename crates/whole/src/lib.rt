@@ -1,4 +1,6 @@
 // When a block holds together, clause by clause.
+#![tactic(auto)]
+
 ghost use Rattle.std.specs.Prelude.{◌≡◌, ◌+◌, ◌-◌, ◌*◌, ◌≤◌, eqb, leb, get_or, take};
 ghost use Rattle.base.specs.Tests.{up_to};
 ghost use Rattle.h265.specs.Reuse.{trues};

@@ -17,7 +17,7 @@ use Rattle.h265.specs.Strings.{bit}
 use Rattle.syntax.specs.Block.{colours, palette_of, map_bins, block_bins}
 use Rattle.syntax.specs.Block as B
 use Rattle.syntax.specs.MapLaws.{CodedOk}
-use Rattle.syntax.specs.Ready.{ready}
+use Rattle.syntax.proofs.Ready.{ready}
 use Rattle.syntax.specs.Records.{call_of, block_of}
 use Rattle.syntax.specs.Runs.{Run}
 use Rattle.syntax.specs.Test.{replays}

@@ -1,4 +1,6 @@
 // A palette block with its runs, written onto a lent bin list from the lists of numbers that crates flat and flatplan lay them in. Bins are laid on a list of their own first, so that their number is known before the caller's list is touched; onto the caller's straight where it has room for any such block.
+#![tactic(auto)]
+
 ghost use Rattle.std.specs.Prelude.{◌≡◌, true, ◌+◌, ◌-◌, ◌*◌, ◌≤◌, length, take};
 ghost use Rattle.std.proofs.lemmas.List.Edits.{sets};
 ghost use Rattle.base.specs.Laid.{Laid};
@@ -19,7 +21,7 @@ use rules::replays_to;
 use whole::{block_size_in, holds_together};
 
 // A refusal's number, or 0 and the number of bins.
-#[derive(Drop)]
+#[derive(Clone, Copy)]
 pub struct Written {
     pub refusal: u8,
     pub bins: usize,

@@ -1,4 +1,6 @@
 // The writer of a palette block, with a list of run records that the caller lends.
+#![tactic(auto)]
+
 ghost use Rattle.std.specs.Prelude.{◌≡◌, length};
 ghost use Rattle.write.specs.Write.{write_of, list_after};
 

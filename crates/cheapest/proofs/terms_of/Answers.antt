@@ -1,0 +1,10 @@
+use mathlib.Core.Path.{◌≡◌, refl, sym, ap, ◌∙◌}
+use native.Mathlib.Omega.{arith}
+use borrow.Author.Rules.{rules}
+use Rattle.cheapest.proofs.terms_of.Goals as goal
+
+pub share_bits-requires : goal.share_bits-requires
+share_bits-requires c = omega (arith, c.requires)
+
+pub returns : goal.returns
+returns c = rw c.share_bits.ensures

@@ -1,0 +1,20 @@
+-- `flatupdate::keep`. The loop's invariant: what is laid and what is to follow make the whole.
+use mathlib.Core.Path.{◌≡◌, refl, sym, ◌∙◌}
+use mathlib.Core.List.{List}
+use Prim.Native.Nat.{◌+◌, ◌-◌, ◌≤◌}
+use native.Mathlib.Omega.{arith}
+use borrow.Author.Tests.{leb-true}
+use lib.Dec.{leb}
+use lib.ListN.{length}
+use Rattle.base.specs.Tests.{both, and_pick}
+use Rattle.model.specs.declared.Color.{Color}
+use Rattle.flat.specs.Flat.{colors_of}
+use Rattle.flatupdate.specs.Renewing.{Keeping, keeping_start, keeping_step, keeping_full, keeping_end}
+use borrow.Author.Rules.{rules}
+use Rattle.flatupdate.proofs.keep.Given as goal
+
+abbrev pub invariant-loop-j : goal.invariant-loop-j
+invariant-loop-j l = (l.j ≤ l.flags) × (l.k ≤ l.limit) × (length l.list ≡ length l.initial.list) × ((cs : List Color) → l.old ≡ colors_of cs → Keeping l.initial.list l.block l.first l.flags l.limit cs l.k l.j l.list)
+
+abbrev pub decreases-loop-j : goal.decreases-loop-j
+decreases-loop-j l = l.flags - l.j

@@ -1,0 +1,5 @@
+pub mod ReuseLaws
+pub mod RiceLaws
+pub mod TbLaws
+pub mod RunLaws
+pub mod Worked

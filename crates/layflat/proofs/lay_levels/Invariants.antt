@@ -1,0 +1,17 @@
+-- `layflat::lay_levels`. The loop's invariant: what is left makes the whole.
+use mathlib.Core.Path.{◌≡◌, refl, ◌∙◌}
+use mathlib.Core.List.{List}
+use Prim.Native.Nat.{ℕ, ◌+◌, ◌*◌, ◌-◌, ◌≤◌}
+use native.Mathlib.Omega.{arith}
+use lib.ListN.{length, drop}
+use Rattle.base.specs.Laid.{Left, left-start, left-turn, left_end}
+use Rattle.flat.specs.Flat.{levels_of}
+use Rattle.layflat.specs.Rest.{levels-next, levels-end}
+use borrow.Author.Rules.{rules}
+use Rattle.layflat.proofs.lay_levels.Given as goal
+
+abbrev pub invariant-loop-i : goal.invariant-loop-i
+invariant-loop-i l = (l.i ≤ 1024) × (l.to ≡ l.at + 3 * l.i) × (length l.list ≡ length l.initial.list) × Left l.initial.list l.at (levels_of l.ls) l.list l.to (levels_of (drop l.i l.ls))
+
+abbrev pub decreases-loop-i : goal.decreases-loop-i
+decreases-loop-i l = 1024 - l.i

@@ -1,0 +1,16 @@
+use mathlib.Core.Path.{◌≡◌, refl, sym, ap, ◌∙◌}
+use mathlib.Core.Bool.{Bool, true, false}
+use Prim.Native.Nat.{ℕ, suc, ◌+◌, ◌-◌, ◌*◌, ◌≤◌, ◌<◌}
+use native.Mathlib.Omega.{arith}
+use Rattle.h265.specs.Strings.{bit}
+use borrow.Author.Rules.{rules}
+use Rattle.plan.proofs.greatest.Goals as goal
+
+pub returns-then-escape : goal.returns-then-escape
+returns-then-escape c = (rw c.if-escape.true (omega arith), omega arith)
+
+pub returns-then-size-eq0 : goal.returns-then-size-eq0
+returns-then-size-eq0 c = (rw c.if-escape.false (omega arith), omega arith)
+
+pub returns : goal.returns
+returns c = (rw c.if-escape.false (omega arith), omega arith)

@@ -1,0 +1,18 @@
+use mathlib.Core.Path.{◌≡◌, refl, sym, ap, ◌∙◌}
+use mathlib.Core.Bool.{Bool, true, false}
+use Prim.Native.Nat.{ℕ, suc, ◌+◌, ◌-◌, ◌*◌, ◌≤◌, ◌<◌}
+use native.Mathlib.Omega.{arith}
+use lib.ListN.{get_or}
+use borrow.Author.Tests.{lt-ltb, le-ltb, eq-eqb, ne_eqb}
+use Rattle.base.specs.Upto.{literal_0}
+use Rattle.relax.specs.Jumps.{length_from}
+use borrow.Author.Rules.{rules}
+use Rattle.relax.proofs.length_bits.Goals as goal
+
+pub returns-then-q-n : goal.returns-then-q-n
+unfolding length_from
+returns-then-q-n c = rw (eq-eqb _ _ c.if-q-n.true) literal_0
+
+pub returns : goal.returns
+unfolding length_from
+returns c = c.run_from.ensures ∙ rw (ne_eqb _ _ c.if-q-n.false)

@@ -1,0 +1,16 @@
+use mathlib.Core.Path.{◌≡◌, refl, sym, ap, ◌∙◌}
+use mathlib.Core.Bool.{Bool, true, false}
+use Prim.Native.Nat.{ℕ, suc, ◌+◌, ◌-◌, ◌*◌, ◌/◌, ◌%◌, ◌≤◌, ◌<◌}
+use native.Mathlib.Omega.{arith}
+use lib.ListN.{get_or}
+use borrow.Author.Tests.{lt-ltb, le-ltb, eq-eqb, ne_eqb, le-leb, lt-leb}
+use Rattle.starts.specs.Starts.{head_from, alphabet_in}
+use borrow.Author.Rules.{rules}
+use Rattle.starts.proofs.head_bits.Goals as goal
+
+pub index_bits-requires : goal.index_bits-requires
+index_bits-requires c = rw c.alphabet_at.ensures (alphabet_in c.args.t.most c.args.p c.requires.1 c.requires.2)
+
+pub returns : goal.returns
+unfolding head_from
+returns c = rw (c.flag_bits-flag.ensures, c.index_bits.ensures, c.alphabet_at.ensures)

@@ -1,0 +1,9 @@
+pub mod RunsLaws
+pub mod MapLaws
+pub mod BlockLaws
+pub mod ReplayLaws
+pub mod WholeLaws
+pub mod PaletteLaws
+pub mod Entry
+pub mod Figures
+pub mod Ready
