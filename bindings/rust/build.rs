@@ -8,8 +8,14 @@ use std::{env, fs};
 
 fn main() {
     let root = Path::new(&env::var("CARGO_MANIFEST_DIR").unwrap()).join("../..").canonicalize().unwrap();
-    for file in ["crates", "crates.txt", "tools"] {
+    for file in ["crates.txt", "tools"] {
         println!("cargo:rerun-if-changed={}", root.join(file).display());
+    }
+    // all but crates/*/out, where rt keeps what it made
+    for name in fs::read_dir(root.join("crates")).unwrap().map(|entry| entry.unwrap().path()) {
+        for part in ["src", "specs", "proofs"].map(|part| name.join(part)).iter().filter(|part| part.is_dir()) {
+            println!("cargo:rerun-if-changed={}", part.display());
+        }
     }
     println!("cargo:rerun-if-env-changed=VELOMITRA_ARCHIVES");
     let folder = env::var_os("VELOMITRA_ARCHIVES").map(PathBuf::from).unwrap_or_else(|| {
@@ -18,7 +24,7 @@ fn main() {
     });
     println!("cargo:rustc-link-search=native={}", folder.display());
     let crates = fs::read_to_string(root.join("crates.txt")).unwrap();
-    for name in crates.lines().filter_map(|line| line.split_once(':')).map(|(name, _)| name).filter(|name| name.starts_with("exports")) {
+    for name in crates.lines().filter_map(|line| line.split_once("_c staticlib:")).map(|(name, _)| name) {
         let archive = folder.join(format!("lib{name}.a"));
         assert!(archive.is_file(), "{} is not there", archive.display());
         println!("cargo:rerun-if-changed={}", archive.display());

@@ -12,8 +12,8 @@ fn main() {
     depends(root.join("crates.txt"));
     depends(root.join("tools/prototypes"));
     let crates = fs::read_to_string(root.join("crates.txt")).unwrap();
-    for name in crates.lines().filter_map(|line| line.split_once(':')).map(|(name, _)| name).filter(|name| name.starts_with("exports")) {
-        depends(root.join(format!("crates/{name}/src/lib.rt")));
+    for name in crates.lines().filter_map(|line| line.split_once("_c staticlib:")).map(|(name, _)| name) {
+        depends(root.join(format!("crates/{name}_c/src/lib.rt")));
         depends(archives.join(format!("lib{name}.a")));
         println!("cargo:rustc-link-lib=static={name}");
     }
