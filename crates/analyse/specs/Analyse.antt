@@ -1,5 +1,5 @@
 -- The palette of a block: its colours counted, and a palette chosen from them. Definitions only.
-use Rattle.std.specs.Prelude.{List, ℕ, length}
+use Rattle.std.specs.Prelude.{Result, Ok, Err, Bool, List, ℕ, length}
 use Rattle.base.specs.Pick.{pick}
 use Rattle.colors.specs.Table.{generation_of}
 use Rattle.colors.specs.declared.ColorIndex.{ColorIndex}
@@ -8,8 +8,26 @@ use Rattle.choose.specs.Choose.{Chosen, painting_of, nothing}
 use Rattle.choose.specs.declared.Painting.{Painting}
 use Rattle.tally.specs.Tally.{pre_check, index_of, answer_to}
 use Rattle.paint.specs.Paint.{palette_of}
-use Rattle.analyse.specs.declared.Analysed.{Analysed}
-use Rattle.analyse.specs.declared.Painted.{Painted}
+use Rattle.refusal.specs.declared.Refusal.{Refusal}
+use Rattle.refusal.specs.Refusal.{number_of}
+
+-- 0 and a palette, or 13 and none; and the counter after it
+pub record Analysed : Type 0 where
+  pub answer : ℕ
+  pub painting : Painting
+  pub index : ColorIndex
+
+-- the same; whether the counter was to be kept; and its generation if not
+pub record Painted : Type 0 where
+  pub answer : ℕ
+  pub kept : Bool
+  pub generation : ℕ
+  pub painting : Painting
+
+-- an answer with the counter after it; a refusal has no palette
+abbrev pub as_analysed : Result Painting Refusal → ColorIndex → Analysed
+as_analysed (Ok p) c = record { answer = 0; painting = p; index = c }
+as_analysed (Err r) c = record { answer = number_of r; painting = painting_of nothing; index = c }
 
 -- palette and flags of the first n samples xs, from predictor entries es
 unfoldable pub analysed : ℕ → ℕ → List ℕ → List ℕ → ℕ → Chosen

@@ -1,27 +1,25 @@
 -- The laws of an analysis: counting and choosing make it, and the samples alone decide its palette.
-use Rattle.std.specs.Prelude.{Bool, List, [], ◌≡◌, ℕ, ◌≤◌, ◌<◌, eqb, length, get_or}
+use Rattle.std.specs.Prelude.{Ok, Err, List, ◌≡◌, ℕ, ◌≤◌, ◌<◌, eqb, length, get_or}
 use Rattle.std.proofs.Math.Bool.{true, false}
 use Rattle.std.proofs.Math.Path.{refl, sym, ap}
-use Rattle.std.proofs.Common.{◌∙◌}
+use Rattle.std.proofs.Common.{◌∙◌, length-take-le, get_or-take}
 use native.Mathlib.Omega.{arith}
 use Rattle.std.proofs.Math.ListN.{take}
 use Rattle.base.specs.Pick.{pick, either}
-use Rattle.base.specs.Lists.{padded, padded-take}
+use Rattle.base.specs.Lists.{padded-take}
 use Rattle.colors.specs.Table.{tab}
 use Rattle.colors.specs.declared.ColorIndex.{ColorIndex}
 use Rattle.census.specs.declared.Census.{Census}
 use Rattle.census.specs.Census.{itself, met, counts, too_many, census}
 use Rattle.census.specs.Laws.{met_ext, counts_ext, counts-length}
 use Rattle.choose.specs.declared.Painting.{Painting}
-use Rattle.choose.specs.Choose.{Chosen, painting_of, nothing}
-use Rattle.tally.specs.declared.Counted.{Counted}
-use Rattle.tally.specs.declared.Tally.{Tally}
-use Rattle.tally.specs.Tally.{pre_check, index_at, moved_to, moved, index_of, answer_to, colors_to, counted_of, tally_of}
-use Rattle.tally.specs.Laws.{counted-small, kept-many}
+use Rattle.choose.specs.Choose.{painting_of, nothing}
+use Rattle.refusal.specs.declared.Refusal.{Refusal}
+use Rattle.tally.specs.Tally.{as_tally, Tally, Counted, pre_check, index_at, moved_to, moved, index_of, answer_to, colors_to, counted_of, tally_of}
+use Rattle.tally.specs.Laws.{counted-small, kept-many, index_ext}
+use Rattle.refusal.specs.Laws.{number_other}
 use Rattle.paint.specs.Paint.{palette_of}
-use Rattle.analyse.specs.declared.Analysed.{Analysed}
-use Rattle.analyse.specs.declared.Painted.{Painted}
-use Rattle.analyse.specs.Analyse.{analysed, painting_to, painted_of, analysis_of}
+use Rattle.analyse.specs.Analyse.{as_analysed, Analysed, Painted, analysed, painting_to, painted_of, analysis_of}
 
 -- what is painted from the colours counted
 module _ (xs : List ℕ) (n tol limit : ℕ) (es : List ℕ) (a : ℕ) (f : Census) (u : a ≡ answer_to xs n) (v : f ≡ colors_to xs n) where
@@ -64,6 +62,18 @@ module _ (c : ColorIndex) (xs : List ℕ) (n shift tol limit : ℕ) (es : List �
       let w = painted xs n tol limit es t.answer t.colors (ap (λ (z : Tally). z.answer) v) (ap (λ (z : Tally). z.colors) v) p q in
       (λ i. record { answer = (v i).answer; painting = w i; index = (v i).index })
 
+-- from what the count answered: the palette of its colours, or none
+module _ (c after : ColorIndex) (xs : List ℕ) (n shift tol limit : ℕ) (es : List ℕ) where
+  pub found-few : (found : Census) → as_tally (Ok found) after ≡ tally_of c xs n shift → found.distinct ≤ 128
+  found-few found v = few_in c xs n shift tol limit es (as_tally (Ok found) after) v
+
+  pub found-painted : (found : Census) → as_tally (Ok found) after ≡ tally_of c xs n shift → (p : Painting) → p ≡ painting_of (palette_of tol limit es (take found.distinct found.met) (take found.distinct found.counts))
+      → as_analysed (Ok p) after ≡ analysis_of c xs n shift tol limit es
+  found-painted found v p q = painted_in c xs n shift tol limit es (as_tally (Ok found) after) v p q
+
+  pub none-painted : (r : Refusal) → as_tally (Err r) after ≡ tally_of c xs n shift → as_analysed (Err r) after ≡ analysis_of c xs n shift tol limit es
+  none-painted r v = painted_in c xs n shift tol limit es (as_tally (Err r) after) v (painting_of nothing) (rw (number_other r) refl)
+
 -- with the counter kept, or moved on
 module _ (k : ColorIndex) (xs : List ℕ) (n shift tol limit : ℕ) (es : List ℕ) (d : Painted) (v : d ≡ painted_of xs n shift tol limit es k.generation) where
   pub painted-kept : d.kept ≡ true → ◌≡◌ {A = Analysed} (record { answer = d.answer; painting = d.painting; index = k }) (analysis_of k xs n shift tol limit es)
@@ -101,3 +111,17 @@ module _ (xs ys : List ℕ) (n : ℕ) (h : (i : ℕ) → i < n → get_or xs i 0
   pub answer_ext : (c d : ColorIndex) (shift shift' tol limit : ℕ) (es : List ℕ) → (analysis_of c xs n shift tol limit es).answer ≡ (analysis_of d ys n shift' tol limit es).answer
   unfolding analysis_of
   answer_ext c d shift shift' tol limit es = (λ j. pick (too_many (length (met_ext itself xs ys n h j)) n) 13 0)
+
+-- the same of the analysis as a whole, by one counter
+pub analysis_ext : (c : ColorIndex) (xs ys : List ℕ) (n shift tol limit : ℕ) (es : List ℕ) → ((i : ℕ) → i < n → get_or xs i 0 ≡ get_or ys i 0) → analysis_of c xs n shift tol limit es ≡ analysis_of c ys n shift tol limit es
+unfolding analysis_of
+analysis_ext c xs ys n shift tol limit es h = (λ j. record {
+  answer = answer_ext xs ys n h c c shift shift tol limit es j;
+  painting = painting_ext xs ys n h c c shift shift tol limit es j;
+  index = index_ext c xs ys n shift h j;
+})
+
+-- a list's first n samples are the block's
+pub analysis_front : (c : ColorIndex) (xs : List ℕ) (n shift tol limit : ℕ) (es : List ℕ) → n ≤ length xs → analysis_of c (take n xs) (length (take n xs)) shift tol limit es ≡ analysis_of c xs n shift tol limit es
+analysis_front c xs n shift tol limit es h =
+    ap (λ (m : ℕ). analysis_of c (take n xs) m shift tol limit es) (length-take-le n xs h) ∙ analysis_ext c (take n xs) xs n shift tol limit es (λ i l. get_or-take n xs i 0 l)

@@ -1,5 +1,5 @@
 -- Document 01's analysis of a block: the refusals, the block made, and the colour counter after it. Definitions only.
-use Rattle.std.specs.Prelude.{Bool, not, List, [], ◌∷◌, ◌++◌, ℕ, ◌-◌, ◌*◌, eqb, leb, length, replicate}
+use Rattle.std.specs.Prelude.{Result, Ok, Err, Bool, not, List, [], ◌∷◌, ◌++◌, ℕ, ◌-◌, ◌*◌, eqb, leb, length, replicate}
 use Rattle.base.specs.Cells.{laid}
 use Rattle.base.specs.Pick.{pick}
 use Rattle.base.specs.Tests.{every, any, refusal}
@@ -18,7 +18,20 @@ use Rattle.census.specs.Census.{met, too_many}
 use Rattle.tally.specs.Tally.{index_of}
 use Rattle.analyse.specs.Analyse.{analysed}
 use Rattle.blocks.specs.Blocks.{entries_of, block_of}
-use Rattle.analysis.specs.declared.Analyzed.{Analyzed}
+use Rattle.model.specs.declared.PaletteCu.{PaletteCu}
+use Rattle.refusal.specs.declared.Refusal.{Refusal}
+use Rattle.refusal.specs.Refusal.{number_of}
+
+-- a refusal's number, 0 where there is none; the block made, blank on a refusal; the counter after the call
+pub record Analyzed : Type 0 where
+  pub refusal : ℕ
+  pub cu : PaletteCu
+  pub counter : ColorIndex
+
+-- an answer with the counter after the call
+abbrev pub as_analyzed : Result PaletteCu Refusal → ColorIndex → Analyzed
+as_analyzed (Ok cu) k = record { refusal = 0; cu = cu; counter = k }
+as_analyzed (Err r) k = record { refusal = number_of r; cu = blank_cu; counter = k }
 
 -- the block's colours, row by row from the left
 abbrev pub cells_of : List ℕ → List ℕ → List ℕ → PaletteConfig → SourceBlock → List ℕ

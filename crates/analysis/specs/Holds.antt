@@ -43,8 +43,7 @@ use Rattle.analyse.specs.Analyse.{analysed}
 use Rattle.analyse.specs.Laws.{analysed_ext}
 use Rattle.blocks.specs.Blocks.{color_of, entries_of, block_of}
 use Rattle.blocks.specs.Laws.{color_packed}
-use Rattle.analysis.specs.declared.Analyzed.{Analyzed}
-use Rattle.analysis.specs.Analyze.{cells_of, tolerance_at, lent_in, few_colors, with_refusal, decided, answer_of, analyze_of, analyze_with_of}
+use Rattle.analysis.specs.Analyze.{Analyzed, cells_of, tolerance_at, lent_in, few_colors, with_refusal, decided, answer_of, analyze_of, analyze_with_of}
 use Rattle.analysis.specs.Laws.{palette_with}
 
 -- ---- a call that is decided by its colours

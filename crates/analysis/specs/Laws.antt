@@ -1,11 +1,11 @@
 -- How the answers of an analysis come about.
-use Rattle.std.specs.Prelude.{Bool, true, false, List, [], ◌∷◌, ◌≡◌, ℕ, ◌-◌, ◌*◌, ◌≤◌, leb, length, replicate}
+use Rattle.std.specs.Prelude.{◌&&◌, Bool, true, false, List, [], ◌∷◌, ◌≡◌, ℕ, ◌-◌, ◌*◌, ◌≤◌, leb, length, replicate}
 use Rattle.std.proofs.Math.Path.{ap}
 use Rattle.std.proofs.Common.{sym, ◌∙◌, arith}
 use borrow.Author.Tests.{ne_eqb, leb-true, le-leb}
 use Rattle.base.specs.Pick.{either}
 use Rattle.base.specs.Refusals.{refused-early, refused-late}
-use Rattle.base.specs.Tests.{both, refusal}
+use Rattle.base.specs.Tests.{both, refusal, ands-every}
 use Rattle.h265.specs.Escape.{step_at}
 use Rattle.quant.specs.QuantLaws.{tolerance_le}
 use Rattle.model.specs.Blank.{blank_cu}
@@ -22,12 +22,10 @@ use Rattle.census.specs.Census.{met, counts, too_many}
 use Rattle.choose.specs.Choose.{painting_of}
 use Rattle.tally.specs.Tally.{index_of}
 use Rattle.paint.specs.Laws.{palette_trues}
-use Rattle.analyse.specs.Analyse.{analysed, analysis_of}
-use Rattle.analyse.specs.declared.Analysed.{Analysed}
+use Rattle.analyse.specs.Analyse.{Analysed, analysed, analysis_of}
 use Rattle.blocks.specs.Blocks.{entries_of}
 use Rattle.blocks.specs.Laws.{block_with, block_painted}
-use Rattle.analysis.specs.declared.Analyzed.{Analyzed}
-use Rattle.analysis.specs.Analyze.{cells_of, tolerance_at, lent_in, few_colors, palette_refusal, with_refusal, decided, answer_of, analyze_of, analyze_with_of}
+use Rattle.analysis.specs.Analyze.{Analyzed, cells_of, tolerance_at, lent_in, few_colors, palette_refusal, with_refusal, decided, answer_of, analyze_of, analyze_with_of}
 
 -- ---- the answers, by number
 
@@ -55,6 +53,20 @@ module _ (xs : List ℕ) (c : PaletteConfig) (size : ℕ) (p : PalettePredictor)
   pub lent-taken : lent_in c p k ≡ true → leb tol 16 ≡ true → answer_of (refusal last) xs c size p k tol ≡ answer_of (refusal ((lent_in c p k, 5) ∷ (leb tol 16, 7) ∷ last)) xs c size p k tol
   lent-taken e t = rw (e, t)
 
+  -- 5 or 7, by the number answered
+  pub lent_refused : (r : ℕ) → r ≡ refusal ((lent_in c p k, 5) ∷ (leb tol 16, 7) ∷ []) → 1 ≤ r → refused_with r k ≡ answer_of (refusal ((lent_in c p k, 5) ∷ (leb tol 16, 7) ∷ last)) xs c size p k tol
+  lent_refused r e o =
+      either (lent_in c p k)
+      (λ t. either (leb tol 16) (λ u. let z : r ≡ 0 = e ∙ rw (t, u) in absurd (omega arith)) (λ u. let z : r ≡ 7 = e ∙ rw (t, u) in ap (λ (n : ℕ). refused_with n k) z ∙ refused_tolerance t u))
+      (λ f. let z : r ≡ 5 = e ∙ rw f in ap (λ (n : ℕ). refused_with n k) z ∙ refused-lent f)
+
+  -- neither
+  pub lent_passed : 0 ≡ refusal ((lent_in c p k, 5) ∷ (leb tol 16, 7) ∷ []) → (lent_in c p k ≡ true) × (leb tol 16 ≡ true)
+  lent_passed e =
+      either (lent_in c p k)
+      (λ t. either (leb tol 16) (λ u. (t, u)) (λ u. let z : 0 ≡ 7 = e ∙ rw (t, u) in absurd (omega arith)))
+      (λ f. let z : 0 ≡ 5 = e ∙ rw f in absurd (omega arith))
+
   module _ (n shift : ℕ) (es : List ℕ) (a : Analysed) (is : a ≡ analysis_of k xs n shift tol 64 es) (area : n ≡ size * size) (over : shift ≡ c.bd_luma - 8) (are : es ≡ entries_of p) where
     same : a ≡ analysis_of k xs (size * size) (c.bd_luma - 8) tol 64 (entries_of p)
     same = is ∙ rw (area, over, are)
@@ -69,6 +81,17 @@ module _ (xs : List ℕ) (c : PaletteConfig) (size : ℕ) (p : PalettePredictor)
         either (too_many (length (met xs (size * size))) (size * size))
         (λ e. rw (e, after))
         (λ e. absurd (h (ap (λ (z : Analysed). z.answer) same ∙ rw e)))
+
+    thirteen : (a.answer ≡ 0 → ⊥) → a.answer ≡ 13
+    unfolding analysis_of
+    thirteen h =
+        either (too_many (length (met xs (size * size))) (size * size))
+        (λ e. ap (λ (z : Analysed). z.answer) same ∙ rw e)
+        (λ e. absurd (h (ap (λ (z : Analysed). z.answer) same ∙ rw e)))
+
+    -- the same with the number answered
+    pub refused_number : (a.answer ≡ 0 → ⊥) → refused_with a.answer a.index ≡ answer_of (refusal last) xs c size p k tol
+    refused_number h = ap (λ (r : ℕ). refused_with r a.index) (thirteen h) ∙ refused-many h
 
     painted : a.answer ≡ 0 → (too_many (length (met xs (size * size))) (size * size) ≡ false) × (a.painting ≡ painting_of (analysed tol 64 (entries_of p) xs (size * size)))
     unfolding analysis_of
@@ -94,6 +117,11 @@ unfolding lent_in predictor_in
 lent_bounds c p k e =
     let a = both (predictor_in c.chroma_idc c.bd_luma c.bd_chroma p) _ e in
     (leb-true p.size 128 (both (leb p.size 128) _ a.0).0, (both (none_above k.generation k.stamp) true a.1).0)
+
+-- the two tests of 5 joined
+pub lent_by : (c : PaletteConfig) (p : PalettePredictor) (k : ColorIndex) (a b : Bool) → a ≡ predictor_in c.chroma_idc c.bd_luma c.bd_chroma p → b ≡ none_above k.generation k.stamp → a && b ≡ lent_in c p k
+unfolding lent_in
+lent_by c p k a b e h = ands-every a (b ∷ []) ∙ rw (e, h)
 
 -- ---- the entry points
 

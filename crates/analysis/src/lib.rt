@@ -3,48 +3,48 @@
 
 ghost use Rattle.std.specs.Prelude.{◌≡◌, true, [], ◌∷◌, ◌-◌, ◌*◌, ◌≤◌, leb};
 ghost use Rattle.base.specs.Tests.{refusal};
+ghost use Rattle.refusal.specs.Refusal.{code_of};
 ghost use Rattle.colors.specs.Table.{none_above};
 ghost use Rattle.model.specs.Domain.{depth_in, config_in};
-ghost use Rattle.analysis.specs.Analyze.{tolerance_at, lent_in, few_colors, answer_of, analyze_of, analyze_with_of};
-ghost use Rattle.analysis.specs.Laws.{refused_with};
+ghost use Rattle.analyse.specs.Analyse.{as_analysed, analysis_of};
+ghost use Rattle.blocks.specs.Blocks.{entries_of};
+ghost use Rattle.analysis.specs.Analyze.{as_analyzed, tolerance_at, lent_in, few_colors, answer_of, analyze_of, analyze_with_of};
 
+use choose::Painting;
 use colors::ColorIndex;
 use model::{PaletteConfig, PaletteCu, PalettePredictor, SourceBlock};
-
-// A refusal's number, 0 where there is none; the block made, blank on a refusal; the counter after the call.
-#[derive(Clone, Copy)]
-pub struct Analyzed {
-    pub refusal: u8,
-    pub cu: PaletteCu,
-    pub counter: ColorIndex,
-}
-
-// A refusal, with the blank block and a counter.
-fn refused(number: u8, counter: ColorIndex) -> Analyzed
-    ensures { result ≡ refused_with number counter }
-{
-    let cu = blocks::blank();
-    Analyzed {
-        refusal: number,
-        cu: cu,
-        counter: counter,
-    }
-}
-
-// The cells of a block.
-pub fn area(size: usize) -> usize
-    requires { size ≤ 32 }
-    ensures { (result ≡ size * size) × (result ≤ 1024) }
-{
-    size * size
-}
+use refusal::Refusal;
 
 // The bits of a depth over 8.
 pub fn over_eight(depth: u8) -> u64
     requires { depth_in depth ≡ true }
     ensures { (result ≡ depth - 8) × (result ≤ 8) }
 {
-    (depth - 8) as u64
+    u64::from(depth - 8)
+}
+
+// The palette of a block's colours, or 13; and the counter after it.
+pub fn choose_palette(
+    cells: &[u64; 1024],
+    size: usize,
+    depth: u8,
+    p: PalettePredictor,
+    counter: &mut ColorIndex,
+    tol: u64,
+) -> Result<Painting, Refusal>
+    requires { (size ≤ 32) × (depth_in depth ≡ true) × (p.size ≤ 128) × (none_above counter.old.generation counter.old.stamp ≡ true) }
+    ensures { as_analysed result counter.new ≡ analysis_of counter.old cells.now (size * size) (depth - 8) tol 64 (entries_of p) }
+{
+    let samples = &cells[..extent::area(size)];
+    let packed = blocks::pack_predictor(p.entries);
+    analyse::analyse(
+        samples,
+        over_eight(depth),
+        tol,
+        64,
+        &packed[..p.size],
+        counter,
+    )
 }
 
 // 13, or the block made; and the counter after it.
@@ -53,35 +53,34 @@ fn choose_block(
     c: PaletteConfig,
     size: usize,
     p: PalettePredictor,
-    k: ColorIndex,
+    counter: &mut ColorIndex,
     tol: u64,
-) -> Analyzed
-    requires { (size ≤ 32) × (depth_in c.bd_luma ≡ true) × (p.size ≤ 128) × (none_above k.generation k.stamp ≡ true) }
-    ensures { result ≡ answer_of (refusal ((few_colors cells.now (size * size), 13) ∷ [])) cells.now c size p k tol }
+) -> Result<PaletteCu, Refusal>
+    requires { (size ≤ 32) × (depth_in c.bd_luma ≡ true) × (p.size ≤ 128) × (none_above counter.old.generation counter.old.stamp ≡ true) }
+    ensures { as_analyzed result counter.new ≡ answer_of (refusal ((few_colors cells.now (size * size), 13) ∷ [])) cells.now c size p counter.old tol }
 {
-    let n = area(size);
-    let shift = over_eight(c.bd_luma);
-    let colors = p.entries;
-    let es = blocks::pack_predictor(colors);
-    let a = analyse::analyse(cells, n, shift, tol, 64, es, p.size, k);
-    let after = a.index;
-    if a.answer != 0 {
-        return refused(13, after);
-    }
-    let w = a.painting;
-    let cu = blocks::made(c, size, p.size, tol, w);
-    Analyzed {
-        refusal: 0,
-        cu: cu,
-        counter: after,
-    }
+    let painting = choose_palette(cells, size, c.bd_luma, p, counter, tol)?;
+    Ok(blocks::made(c, size, p.size, tol, painting))
 }
 
-// Whether predictor and counter are in the domain.
-fn lent_in(c: PaletteConfig, p: PalettePredictor, k: ColorIndex) -> bool
-    ensures { result ≡ lent_in c p k }
+// 5 or 7: predictor and counter are in the domain, and the tolerance is at most 16.
+pub fn check_lent(
+    c: PaletteConfig,
+    p: PalettePredictor,
+    counter: &ColorIndex,
+    tol: u64,
+) -> Result<(), Refusal>
+    ensures { code_of result ≡ refusal ((lent_in c p counter.now, 5) ∷ (leb tol 16, 7) ∷ []) }
 {
-    domain::predictor_in(c.chroma_idc, c.bd_luma, c.bd_chroma, p) & colors::stamps_hold(k)
+    let holds = domain::predictor_in(c.chroma_idc, c.bd_luma, c.bd_chroma, p)
+        & counter.stamps_hold();
+    if !holds {
+        return Err(Refusal::Predictor);
+    }
+    if tol > 16 {
+        return Err(Refusal::Block);
+    }
+    Ok(())
 }
 
 // 5, 7 or 13, or the block made; and the counter after it.
@@ -90,20 +89,15 @@ fn analyze_cells(
     c: PaletteConfig,
     size: usize,
     p: PalettePredictor,
-    k: ColorIndex,
+    counter: &mut ColorIndex,
     tol: u64,
-) -> Analyzed
+) -> Result<PaletteCu, Refusal>
     requires { (size ≤ 32) × (depth_in c.bd_luma ≡ true) }
-    ensures { result ≡ answer_of (refusal ((lent_in c p k, 5) ∷ (leb tol 16, 7) ∷ (few_colors cells.now (size * size), 13) ∷ []))
-        cells.now c size p k tol }
+    ensures { as_analyzed result counter.new ≡ answer_of (refusal ((lent_in c p counter.old, 5) ∷ (leb tol 16, 7) ∷ (few_colors cells.now (size * size), 13) ∷ []))
+        cells.now c size p counter.old tol }
 {
-    if lent_in(c, p, k) {
-        if tol <= 16 {
-            return choose_block(cells, c, size, p, k, tol);
-        }
-        return refused(7, k);
-    }
-    refused(5, k)
+    check_lent(c, p, counter, tol)?;
+    choose_block(cells, c, size, p, counter, tol)
 }
 
 // The block with a palette for its samples at a tolerance lent, or a refusal; and the counter after it.
@@ -114,17 +108,14 @@ pub fn analyze_with(
     c: PaletteConfig,
     g: SourceBlock,
     p: PalettePredictor,
-    k: ColorIndex,
+    counter: &mut ColorIndex,
     tol: u64,
-) -> Analyzed
-    ensures { result ≡ analyze_with_of luma.now cb.now cr.now c g p k tol }
+) -> Result<PaletteCu, Refusal>
+    ensures { as_analyzed result counter.new ≡ analyze_with_of luma.now cb.now cr.now c g p counter.old tol }
 {
-    let mut cells: [u64; 1024] = [0; 1024];
-    let r = source::source_refusal(luma, cb, cr, c, g, &mut cells);
-    if r != 0 {
-        return refused(r, k);
-    }
-    analyze_cells(&cells, c, g.size, p, k, tol)
+    let mut cells = [0; 1024];
+    source::fetch_block(luma, cb, cr, c, g, &mut cells)?;
+    analyze_cells(&cells, c, g.size, p, counter, tol)
 }
 
 // The tolerance of the luma QP and the lossless flag.
@@ -143,14 +134,11 @@ pub fn analyze_palette(
     c: PaletteConfig,
     g: SourceBlock,
     p: PalettePredictor,
-    k: ColorIndex,
-) -> Analyzed
-    ensures { result ≡ analyze_of luma.now cb.now cr.now c g p k }
+    counter: &mut ColorIndex,
+) -> Result<PaletteCu, Refusal>
+    ensures { as_analyzed result counter.new ≡ analyze_of luma.now cb.now cr.now c g p counter.old }
 {
-    let mut cells: [u64; 1024] = [0; 1024];
-    let r = source::source_refusal(luma, cb, cr, c, g, &mut cells);
-    if r != 0 {
-        return refused(r, k);
-    }
-    analyze_cells(&cells, c, g.size, p, k, tolerance_at(c))
+    let mut cells = [0; 1024];
+    source::fetch_block(luma, cb, cr, c, g, &mut cells)?;
+    analyze_cells(&cells, c, g.size, p, counter, tolerance_at(c))
 }

@@ -1,8 +1,6 @@
 // Replays source 000's answers: computes each record of standard input with the port's functions and prints a line for it, held to the file `stdout`. oracle/README.md has both forms.
 #![tactic(auto)]
 
-ghost use Rattle.std.specs.Prelude.{◌≡◌, ◌≤◌, length};
-
 use exports::{
     velomitra_dequant_escape, velomitra_distance, velomitra_place_above, velomitra_quantize_escape,
     velomitra_scan_pos, velomitra_scan_pos_inv, velomitra_step, velomitra_tolerance,
@@ -17,288 +15,232 @@ use exports_put::{
     velomitra_put_run, velomitra_put_tb,
 };
 use reading::read_full;
-use std::io;
+use std::fmt::Write;
+use std::{fmt, io};
 
-// A byte as a number.
-fn wide(b: u8) -> u32
-    ensures { result ≤ 255 }
-{
-    b as u32
+// The calls that answer a number.
+#[derive(Clone, Copy)]
+enum Leaf {
+    ScanPos,
+    ScanPosInv,
+    PlaceAbove,
+    Step,
+    Tolerance,
+    Dequant,
+    Quantize,
+    Distance,
+    WrappingMul,
 }
 
-// The byte at a place of a record, 0 past its end.
-fn byte(record: &[u8], at: usize) -> u32
-    ensures { result ≤ 255 }
-{
-    if at < record.len() {
-        return wide(record[at]);
+// The codes that are written and read.
+#[derive(Clone, Copy)]
+enum Code {
+    Bin,
+    Bits,
+    Tb,
+    Egk,
+    Held,
+    Count,
+    Run,
+    Reuse,
+}
+
+// What a record asks for.
+#[derive(Clone, Copy)]
+enum Operation {
+    Number(Leaf),
+    Put(Code),
+    Get(Code),
+}
+
+// A record: words, the first of them the operation, and bins.
+#[derive(Drop)]
+struct Record {
+    words: [u32; 8],
+    bins: [u8; 32],
+}
+
+// Bins or flags, as letters from `a` on.
+#[derive(Clone, Copy)]
+struct Letters<'a, T>(&'a [T]);
+
+impl From<u32> for Operation {
+    // By its number; each other number stands for the last of its kind.
+    fn from(number: u32) -> Operation {
+        match number {
+            1 => Operation::Number(Leaf::ScanPos),
+            2 => Operation::Number(Leaf::ScanPosInv),
+            0 | 3 => Operation::Number(Leaf::PlaceAbove),
+            4 => Operation::Number(Leaf::Step),
+            5 => Operation::Number(Leaf::Tolerance),
+            6 => Operation::Number(Leaf::Dequant),
+            7 => Operation::Number(Leaf::Quantize),
+            8 => Operation::Number(Leaf::Distance),
+            9..=15 => Operation::Number(Leaf::WrappingMul),
+            17 => Operation::Put(Code::Bits),
+            18 => Operation::Put(Code::Tb),
+            19 => Operation::Put(Code::Egk),
+            21 => Operation::Put(Code::Count),
+            22 => Operation::Put(Code::Run),
+            16..=31 => Operation::Put(Code::Reuse),
+            33 => Operation::Get(Code::Bits),
+            34 => Operation::Get(Code::Tb),
+            35 => Operation::Get(Code::Egk),
+            36 => Operation::Get(Code::Held),
+            37 => Operation::Get(Code::Count),
+            38 => Operation::Get(Code::Run),
+            39 => Operation::Get(Code::Reuse),
+            _ => Operation::Get(Code::Bin),
+        }
     }
-    0
 }
 
-// The little-endian word at a place of a record.
-fn word(record: &[u8], at: usize) -> u32
-    requires { at ≤ 64 }
-{
-    byte(record, at)
-        + 256 * byte(record, at + 1)
-        + 65536 * byte(record, at + 2)
-        + 16777216 * byte(record, at + 3)
+impl<T: Copy + Into<u8>> fmt::Display for Letters<'_, T> {
+    fn fmt<W: fmt::Write>(&self, f: &mut fmt::Formatter<W>) -> fmt::Result {
+        for value in self.0 {
+            f.write_char(letter((*value).into()))?;
+        }
+        Ok(())
+    }
+}
+
+impl Record {
+    // The record of 64 bytes.
+    fn of(bytes: &[u8; 64]) -> Record {
+        let mut words = [0; 8];
+        let mut bins = [0; 32];
+        let (fours, _) = bytes.as_chunks();
+        for (word, four) in words.iter_mut().zip(fours) {
+            *word = u32::from_le_bytes(*four);
+        }
+        bins.copy_from_slice(&bytes[32..]);
+        Record { words, bins }
+    }
+
+    // The flags that a record has from word 3 on, one bit each.
+    fn flags(&self) -> [bool; 128] {
+        let mut flags = [false; 128];
+        for (k, flag) in flags.iter_mut().enumerate() {
+            *flag = self.words[3 + k / 32] >> (k % 32) & 1 == 1;
+        }
+        flags
+    }
+}
+
+// The letter of a bin or a flag.
+fn letter(bin: u8) -> char {
+    match bin {
+        0..=25 => char::from(b'a' + bin),
+        _ => '?',
+    }
 }
 
 // Two words as one number.
 fn join(low: u32, high: u32) -> u64 {
-    high as u64 * 4294967296 + low as u64
-}
-
-// A word as a signed number.
-fn signed(w: u32) -> i32 {
-    if w <= 2147483647 {
-        return w as i32;
-    }
-    !((4294967295 - w) as i32)
-}
-
-// Cells of a block.
-fn cells(op: u32, a: usize, b: usize, c: usize) -> u64 {
-    if op == 1 {
-        return velomitra_scan_pos(a, b);
-    }
-    if op == 2 {
-        return velomitra_scan_pos_inv(a, b, c);
-    }
-    velomitra_place_above(a, b)
-}
-
-// Steps, tolerances, escape levels and their values.
-fn levels(op: u32, lossless: bool, qp: i32, most: u64, x: u32) -> u64 {
-    let step = velomitra_step(qp);
-    if op == 4 {
-        return step;
-    }
-    if op == 5 {
-        return velomitra_tolerance(lossless, step);
-    }
-    if op == 6 {
-        return velomitra_dequant_escape(lossless, step, most, signed(x));
-    }
-    velomitra_quantize_escape(lossless, step, most, x as u64)
-}
-
-// Two numbers of 64 bits.
-fn pairs(op: u32, a: u64, b: u64) -> u64 {
-    if op == 8 {
-        return velomitra_distance(a, b);
-    }
-    velomitra_wrapping_mul(a, b)
+    (u64::from(high) << 32) + u64::from(low)
 }
 
 // A record whose answer is a number.
-fn number(op: u32, a: u32, b: u32, c: u32, d: u32) -> u64 {
-    if op < 4 {
-        return cells(op, a as usize, b as usize, c as usize);
+fn number(leaf: Leaf, record: &Record) -> u64 {
+    let [_, a, b, c, d, ..] = record.words;
+    let lossless = a == 1;
+    let step = velomitra_step(b.cast_signed());
+    let most = u64::from(c);
+    match leaf {
+        Leaf::ScanPos => velomitra_scan_pos(a as usize, b as usize),
+        Leaf::ScanPosInv => velomitra_scan_pos_inv(a as usize, b as usize, c as usize),
+        Leaf::PlaceAbove => velomitra_place_above(a as usize, b as usize),
+        Leaf::Step => step,
+        Leaf::Tolerance => velomitra_tolerance(lossless, step),
+        Leaf::Dequant => velomitra_dequant_escape(lossless, step, most, d.cast_signed()),
+        Leaf::Quantize => velomitra_quantize_escape(lossless, step, most, u64::from(d)),
+        Leaf::Distance => velomitra_distance(join(a, b), join(c, d)),
+        Leaf::WrappingMul => velomitra_wrapping_mul(join(a, b), join(c, d)),
     }
-    if op < 8 {
-        return levels(op, a == 1, signed(b), c as u64, d);
-    }
-    pairs(op, join(a, b), join(c, d))
-}
-
-// A bin or a flag as a letter from `a` on.
-fn letter(b: u8) -> u8 {
-    if b < 26 {
-        return b + 97;
-    }
-    63
-}
-
-// The first n bins of a list as letters.
-fn print_bins(rt: &impl Print, list: &[u8], n: usize) -> io::Result<()> {
-    for bin in list[..n.min(list.len())].iter() {
-        rt.write_all(&[letter(*bin)])?;
-    }
-    Ok(())
-}
-
-// Flags as letters.
-fn print_flags(rt: &impl Print, flags: &[bool]) -> io::Result<()> {
-    for flag in flags {
-        rt.write_all(&[letter(*flag as u8)])?;
-    }
-    Ok(())
-}
-
-// The flags that a record has from byte 12 on, one bit each.
-fn flags_of(record: &[u8]) -> [bool; 128]
-    ensures { 128 ≡ length result }
-{
-    let mut flags = [false; 128];
-    for k in 0..128 {
-        flags[k] = (byte(record, 12 + k / 8) >> (k % 8)) % 2 == 1;
-    }
-    flags
-}
-
-// The reuse runs of a record's flags.
-fn put_flags(list: &mut [u8], record: &[u8], limit: u32, count: u32) -> usize {
-    let flags = flags_of(record);
-    if 128 < count {
-        return 0;
-    }
-    velomitra_put_reuse(list, 0, limit, &flags[..count as usize])
 }
 
 // A value laid in its code from place 0 on; the place after it.
-fn put(list: &mut [u8], record: &[u8], op: u32, a: u32, b: u32) -> usize {
-    if op == 17 {
-        return velomitra_put_bits(list, 0, a, b);
+fn put(code: Code, record: &Record, list: &mut [u8]) -> usize {
+    let [_, a, b, c, d, ..] = record.words;
+    match code {
+        Code::Bits => velomitra_put_bits(list, 0, a, b),
+        Code::Tb => velomitra_put_tb(list, 0, a, b),
+        Code::Egk => velomitra_put_egk(list, 0, a, b),
+        Code::Count => velomitra_put_count(list, 0, a, b),
+        Code::Run => velomitra_put_run(list, 0, a, b == 1, c, d),
+        Code::Bin | Code::Held | Code::Reuse => match record.flags().get(..b as usize) {
+            Some(flags) => velomitra_put_reuse(list, 0, a, flags),
+            None => 0,
+        },
     }
-    if op == 18 {
-        return velomitra_put_tb(list, 0, a, b);
-    }
-    if op == 19 {
-        return velomitra_put_egk(list, 0, a, b);
-    }
-    if op == 21 {
-        return velomitra_put_count(list, 0, a, b);
-    }
-    if op == 22 {
-        return velomitra_put_run(list, 0, a, b == 1, word(record, 12), word(record, 16));
-    }
-    put_flags(list, record, a, b)
 }
 
 // The line of a writer.
-fn print_put(rt: &impl Print, record: &[u8], op: u32, a: u32, b: u32) -> io::Result<()> {
+fn print_put(rt: &impl Print, code: Code, record: &Record) -> io::Result<()> {
     let mut list = [0u8; 256];
-    let next = put(&mut list, record, op, a, b);
-    print!(rt; "{next}:")?;
-    print_bins(rt, &list, next)
+    let next = put(code, record, &mut list);
+    println!(rt; "{next}:{}", Letters(&list[..next.min(256)]))
 }
 
-// A value read in its code.
-fn get(list: &[u8], at: usize, op: u32, a: u32, b: u32, c: u32, out: &mut [u64]) {
-    if op == 33 {
-        velomitra_bits_at(list, at, a, out);
-        return;
+// Refusal or 0, value and place; what is read is a single code.
+fn get(code: Code, record: &Record, list: &[u8]) -> [u64; 3] {
+    let [_, _, at, a, b, c, ..] = record.words;
+    let at = at as usize;
+    let mut out = [0; 3];
+    match code {
+        Code::Bits => velomitra_bits_at(list, at, a, &mut out),
+        Code::Tb => velomitra_tb_at(list, at, a, &mut out),
+        Code::Egk => velomitra_egk_at(list, at, a, &mut out),
+        Code::Held => velomitra_held_egk_at(list, at, a, b, &mut out),
+        Code::Count => velomitra_count_at(list, at, a, &mut out),
+        Code::Run => velomitra_run_at(list, at, a, b == 1, c, &mut out),
+        Code::Bin | Code::Reuse => velomitra_bin_at(list, at, (a & 255) as u8, &mut out),
     }
-    if op == 34 {
-        velomitra_tb_at(list, at, a, out);
-        return;
-    }
-    if op == 35 {
-        velomitra_egk_at(list, at, a, out);
-        return;
-    }
-    if op == 36 {
-        velomitra_held_egk_at(list, at, a, b, out);
-        return;
-    }
-    if op == 37 {
-        velomitra_count_at(list, at, a, out);
-        return;
-    }
-    if op == 38 {
-        velomitra_run_at(list, at, a, b == 1, c, out);
-        return;
-    }
-    velomitra_bin_at(list, at, (a % 256) as u8, out);
+    out
 }
 
-// Refusal or 0, value and place.
-fn print_three(rt: &impl Print, a: u64, b: u64, c: u64) -> io::Result<()> {
-    print!(rt; "{a} {b} {c}")
-}
-
-// The line of a reader of one value.
-fn print_get(rt: &impl Print, list: &[u8], record: &[u8], op: u32, at: usize) -> io::Result<()> {
-    let mut out = [0u64; 3];
-    get(
-        list,
-        at,
-        op,
-        word(record, 12),
-        word(record, 16),
-        word(record, 20),
-        &mut out,
-    );
-    print_three(rt, out[0], out[1], out[2])
-}
-
-// The line of the reader of reuse runs, of as many entries as there are flags.
-fn print_get_flags(
-    rt: &impl Print,
-    list: &[u8],
-    at: usize,
-    limit: u32,
-    flags: &mut [bool],
-) -> io::Result<()> {
-    let mut out = [0u64; 3];
-    velomitra_reuse_at(list, at, limit, flags, &mut out);
-    print_three(rt, out[0], out[1], out[2])?;
-    print!(rt; ":")?;
-    if out[0] == 0 {
-        return print_flags(rt, flags);
-    }
-    Ok(())
-}
-
-// The same, of `count` entries.
-fn print_counted(
-    rt: &impl Print,
-    list: &[u8],
-    at: usize,
-    limit: u32,
-    count: u32,
-) -> io::Result<()> {
+// The line of the reader of reuse runs, with as many flags as there are entries; empty where they are more than 128.
+fn print_reuse(rt: &impl Print, record: &Record, list: &[u8]) -> io::Result<()> {
+    let [_, _, at, limit, count, ..] = record.words;
     let mut flags = [false; 128];
-    if 128 < count {
-        return Ok(());
+    let mut out = [0; 3];
+    let Some(flags) = flags.get_mut(..count as usize) else {
+        return println!(rt);
+    };
+    velomitra_reuse_at(list, at as usize, limit, flags, &mut out);
+    let [refusal, value, place] = out;
+    match refusal {
+        0 => println!(rt; "{refusal} {value} {place}:{}", Letters(flags)),
+        _ => println!(rt; "{refusal} {value} {place}:"),
     }
-    print_get_flags(rt, list, at, limit, &mut flags[..count as usize])
 }
 
-// The line of a reader.
-fn print_read(rt: &impl Print, record: &[u8], op: u32, len: u32, at: u32) -> io::Result<()> {
-    if 32 < len {
-        return Ok(());
+// The line of a reader; empty where the record has fewer bins than it says.
+fn print_get(rt: &impl Print, code: Code, record: &Record) -> io::Result<()> {
+    let Some(list) = record.bins.get(..record.words[1] as usize) else {
+        return println!(rt);
+    };
+    match code {
+        Code::Reuse => print_reuse(rt, record, list),
+        _ => {
+            let [refusal, value, place] = get(code, record, list);
+            println!(rt; "{refusal} {value} {place}")
+        }
     }
-    if record.len() != 64 {
-        return Ok(());
-    }
-    let list = &record[32..32 + len as usize];
-    if op == 39 {
-        return print_counted(rt, list, at as usize, word(record, 12), word(record, 16));
-    }
-    print_get(rt, list, record, op, at as usize)
-}
-
-// The line of a record.
-fn print_line(rt: &impl Print, record: &[u8]) -> io::Result<()> {
-    let op = word(record, 0);
-    let a = word(record, 4);
-    let b = word(record, 8);
-    if op < 16 {
-        rt.print(number(op, a, b, word(record, 12), word(record, 16)))?;
-    } else if op < 32 {
-        print_put(rt, record, op, a, b)?;
-    } else {
-        print_read(rt, record, op, a, b)?;
-    }
-    println!(rt)
-}
-
-// A line for each record.
-fn print_lines(rt: &impl Print, records: &[u8]) -> io::Result<()> {
-    for record in records.chunks_exact(64) {
-        print_line(rt, record)?;
-    }
-    Ok(())
 }
 
 // Lines for the records of standard input, at most 1,024 of them.
 fn main(rt: HostRuntime) -> io::Result<()> {
     let mut input = [0u8; 65536];
     let n = read_full(&mut rt.stdin(), &mut input)?;
-    print_lines(&rt, &input[..n])
+    let (records, _) = input[..n].as_chunks();
+    for bytes in records {
+        let record = Record::of(bytes);
+        match Operation::from(record.words[0]) {
+            Operation::Number(leaf) => println!(&rt; "{}", number(leaf, &record))?,
+            Operation::Put(code) => print_put(&rt, code, &record)?,
+            Operation::Get(code) => print_get(&rt, code, &record)?,
+        }
+    }
+    Ok(())
 }

@@ -1,265 +1,271 @@
 // Replays source 000's answers on whole blocks: makes the call of each record of standard input and prints a line for it, held to the file `stdout`. oracle/README.md has both forms.
 #![tactic(auto)]
 
-ghost use Rattle.std.specs.Prelude.{◌≡◌, ◌≤◌, length};
+ghost use Rattle.std.specs.Prelude.{◌+◌, ◌≤◌, length};
 
 use exports_analysis::{velomitra_analyze_palette, velomitra_analyze_with};
 use exports_block::{velomitra_assign_indices, velomitra_palette_sse};
 use exports_update::velomitra_update;
 use reading::read_full;
-use std::io;
+use std::{fmt, io};
 
-// A byte as a number.
-fn wide(b: u8) -> u16
-    ensures { result ≤ 255 }
-{
-    b as u16
+// The calls.
+#[derive(Clone, Copy)]
+enum Call {
+    Update,
+    Assign,
+    Sse,
+    Analyze,
+    AnalyzeWith,
 }
 
-// The byte at a place of a record, 0 past its end.
-fn byte(record: &[u8], at: usize) -> u16
-    ensures { result ≤ 255 }
-{
-    if at < record.len() {
-        return wide(record[at]);
-    }
-    0
+// A record: numbers of 16 bits.
+#[derive(Drop)]
+struct Record {
+    numbers: [u16; 352],
 }
 
-// A number of a record: two bytes, the low one first.
-fn number(record: &[u8], i: usize) -> u16
-    requires { i ≤ 4432 }
-{
-    byte(record, 2 * i) + 256 * byte(record, 2 * i + 1)
+// What the calls take beside a block: configuration, geometry, planes.
+#[derive(Drop)]
+struct Source {
+    config: [i32; 8],
+    geometry: [usize; 7],
+    y: [u16; 64],
+    cb: [u16; 64],
+    cr: [u16; 64],
 }
 
-// A number of 16 bits as a signed one.
-fn signed(x: u16) -> i32 {
-    if x <= 32767 {
-        return x as i32;
-    }
-    !((65535 - x) as i32)
-}
-
-// A number at a place, where there is one.
-fn put(list: &mut [u16], i: usize, x: u16) {
-    if i < list.len() {
-        list[i] = x;
-    }
-}
-
-// n numbers of a record from place `from` on, laid in a list from place `to` on.
-fn copy(record: &[u8], from: usize, n: usize, list: &mut [u16], to: usize)
-    requires { (from ≤ 352) × (n ≤ 352) × (to ≤ 4432) }
-{
-    for i in 0..n {
-        put(list, to + i, number(record, from + i));
-    }
-}
-
-// A record's block: head and eight entries, eight flags, sixteen cells; the rest is 0.
-fn block(record: &[u8]) -> [u16; 4432] {
-    let mut list = [0u16; 4432];
-    copy(record, 240, 40, &mut list, 0);
-    copy(record, 280, 8, &mut list, 208);
-    copy(record, 288, 16, &mut list, 336);
-    copy(record, 304, 48, &mut list, 1360);
-    list
-}
-
-// A record's configuration.
-fn config(record: &[u8]) -> [i32; 8] {
-    let mut list = [0i32; 8];
-    for i in 0..8 {
-        list[i] = signed(number(record, 2 + i));
-    }
-    list
-}
-
-// A record's geometry.
-fn source(record: &[u8]) -> [usize; 7] {
-    let mut list = [0usize; 7];
-    for i in 0..7 {
-        list[i] = number(record, 10 + i) as usize;
-    }
-    list
-}
-
-// A record's luma plane.
-fn luma(record: &[u8]) -> [u16; 64] {
-    let mut list = [0u16; 64];
-    copy(record, 24, 64, &mut list, 0);
-    list
-}
-
-// A record's chroma plane, from a place on.
-fn chroma(record: &[u8], from: usize) -> [u16; 64]
-    requires { from ≤ 352 }
-{
-    let mut list = [0u16; 64];
-    copy(record, from, 64, &mut list, 0);
-    list
-}
-
-// A record's predictor, of seven entries at most.
-fn predictor(record: &[u8]) -> [u16; 22] {
-    let mut list = [0u16; 22];
-    copy(record, 216, 22, &mut list, 0);
-    list
-}
-
-// A number and a space.
-fn print_number(rt: &impl Print, x: u64) -> io::Result<()> {
-    print!(rt; "{x} ")
-}
-
-// The number at a place of a list, 0 past its end.
-fn at(list: &[u16], i: usize) -> u16 {
-    if i < list.len() {
-        return list[i];
-    }
-    0
-}
-
-// n numbers of a list from place `from` on.
-fn print_numbers(rt: &impl Print, list: &[u16], from: usize, n: usize) -> io::Result<()>
-    requires { (from ≤ 4432) × (n ≤ 352) }
-{
-    for i in 0..n {
-        print_number(rt, at(list, from + i) as u64)?;
-    }
-    Ok(())
-}
-
-// The parts of a block that records have.
-fn print_block(rt: &impl Print, list: &[u16]) -> io::Result<()> {
-    print_numbers(rt, list, 0, 40)?;
-    print_numbers(rt, list, 208, 8)?;
-    print_numbers(rt, list, 336, 16)?;
-    print_numbers(rt, list, 1360, 48)
-}
-
-// The slots that the counter's generation has marked: place, key, entry.
-fn print_slots(
-    rt: &impl Print,
+// A counter: keys, entries, and stamps after the generation.
+#[derive(Drop)]
+struct Counter {
     keys: [u64; 256],
     entry: [u16; 256],
     stamp: [u32; 257],
-) -> io::Result<()> {
-    print_number(rt, stamp[0] as u64)?;
-    for i in 0..256 {
-        if stamp[1 + i] == stamp[0] {
-            print_number(rt, i as u64)?;
-            print_number(rt, keys[i])?;
-            print_number(rt, entry[i] as u64)?;
+}
+
+// Numbers, each with a space after it.
+#[derive(Clone, Copy)]
+struct Numbers<'a>(&'a [u16]);
+
+// The parts of a block that records have.
+#[derive(Clone, Copy)]
+struct Parts<'a>(&'a [u16; 4432]);
+
+impl From<u16> for Call {
+    // By its number; each other number stands for the last.
+    fn from(number: u16) -> Call {
+        match number {
+            1 => Call::Update,
+            2 => Call::Assign,
+            3 => Call::Sse,
+            4 => Call::Analyze,
+            _ => Call::AnalyzeWith,
         }
     }
-    Ok(())
 }
 
-// Refusal or 0, and the predictor after it.
-fn print_update(rt: &impl Print, record: &[u8]) -> io::Result<()> {
-    let cu = block(record);
-    let mut list = predictor(record);
-    let r = velomitra_update(&mut list, &cu, number(record, 1) as usize);
-    print_number(rt, r as u64)?;
-    print_numbers(rt, &list, 0, 22)
-}
-
-// Refusal or 0, and the block after it.
-fn print_assign(rt: &impl Print, record: &[u8]) -> io::Result<()> {
-    let c = config(record);
-    let g = source(record);
-    let y = luma(record);
-    let cb = chroma(record, 88);
-    let cr = chroma(record, 152);
-    let mut cu = block(record);
-    let r = velomitra_assign_indices(&y, &cb, &cr, &c, &g, number(record, 1) == 1, &mut cu);
-    print_number(rt, r as u64)?;
-    print_block(rt, &cu)
-}
-
-// Refusal or 0, and the error figure.
-fn print_sse(rt: &impl Print, record: &[u8]) -> io::Result<()> {
-    let c = config(record);
-    let g = source(record);
-    let y = luma(record);
-    let cb = chroma(record, 88);
-    let cr = chroma(record, 152);
-    let cu = block(record);
-    let mut figure = [0u64; 1];
-    let r = velomitra_palette_sse(&y, &cb, &cr, &c, &g, &cu, &mut figure);
-    print_number(rt, r as u64)?;
-    print_number(rt, figure[0])
-}
-
-// A counter's stamps: the generation, and that of slot 0.
-fn stamps(record: &[u8]) -> [u32; 257] {
-    let mut stamp = [0u32; 257];
-    stamp[0] = number(record, 17) as u32 + 65536 * (number(record, 18) as u32);
-    stamp[1] = number(record, 19) as u32;
-    stamp
-}
-
-// Analysis by the luma QP, or at the tolerance lent.
-fn analyze(
-    record: &[u8],
-    keys: &mut [u64],
-    entry: &mut [u16],
-    stamp: &mut [u32],
-    cu: &mut [u16],
-) -> u8 {
-    let c = config(record);
-    let g = source(record);
-    let y = luma(record);
-    let cb = chroma(record, 88);
-    let cr = chroma(record, 152);
-    let p = predictor(record);
-    if number(record, 0) == 4 {
-        return velomitra_analyze_palette(&y, &cb, &cr, &c, &g, &p, keys, entry, stamp, cu);
+impl fmt::Display for Numbers<'_> {
+    fn fmt<W: fmt::Write>(&self, f: &mut fmt::Formatter<W>) -> fmt::Result {
+        for number in self.0 {
+            write!(f, "{number} ")?;
+        }
+        Ok(())
     }
-    let tol = number(record, 1) as u64;
-    velomitra_analyze_with(&y, &cb, &cr, &c, &g, &p, tol, keys, entry, stamp, cu)
 }
 
-// Refusal or 0, the block after it, and the counter.
-fn print_analyze(rt: &impl Print, record: &[u8]) -> io::Result<()> {
-    let mut keys = [0u64; 256];
-    let mut entry = [0u16; 256];
-    let mut stamp = stamps(record);
-    let mut cu = block(record);
-    let r = analyze(record, &mut keys, &mut entry, &mut stamp, &mut cu);
-    print_number(rt, r as u64)?;
-    print_block(rt, &cu)?;
-    print_slots(rt, keys, entry, stamp)
-}
-
-// The line of a record.
-fn print_line(rt: &impl Print, record: &[u8]) -> io::Result<()> {
-    let op = number(record, 0);
-    if op == 1 {
-        print_update(rt, record)?;
-    } else if op == 2 {
-        print_assign(rt, record)?;
-    } else if op == 3 {
-        print_sse(rt, record)?;
-    } else {
-        print_analyze(rt, record)?;
+impl fmt::Display for Parts<'_> {
+    fn fmt<W: fmt::Write>(&self, f: &mut fmt::Formatter<W>) -> fmt::Result {
+        let block = self.0;
+        let head = Numbers(&block[..40]);
+        let flags = Numbers(&block[208..216]);
+        let indices = Numbers(&block[336..352]);
+        let levels = Numbers(&block[1360..1408]);
+        write!(f, "{head}{flags}{indices}{levels}")
     }
-    println!(rt)
 }
 
-// A line for each record of 704 bytes.
-fn print_lines(rt: &impl Print, records: &[u8]) -> io::Result<()> {
-    for record in records.chunks_exact(704) {
-        print_line(rt, record)?;
+impl fmt::Display for Counter {
+    // The generation, and place, key and entry of the slots that it has marked.
+    fn fmt<W: fmt::Write>(&self, f: &mut fmt::Formatter<W>) -> fmt::Result {
+        let generation = self.stamp[0];
+        write!(f, "{generation} ")?;
+        // Stays an index: the C interface has keys, entries and stamps as lists of their own, and the index is printed.
+        for i in 0..256 {
+            if self.stamp[1 + i] == generation {
+                write!(f, "{i} {} {} ", self.keys[i], self.entry[i])?;
+            }
+        }
+        Ok(())
     }
-    Ok(())
+}
+
+impl Record {
+    // The record of 704 bytes.
+    fn of(bytes: &[u8; 704]) -> Record {
+        let mut numbers = [0; 352];
+        let (pairs, _) = bytes.as_chunks();
+        for (number, pair) in numbers.iter_mut().zip(pairs) {
+            *number = u16::from_le_bytes(*pair);
+        }
+        Record { numbers }
+    }
+
+    // Head and eight entries, eight flags, sixteen cells; the rest is 0.
+    fn block(&self) -> [u16; 4432] {
+        let mut block = [0; 4432];
+        lay(&mut block, 0, &self.numbers[240..280]);
+        lay(&mut block, 208, &self.numbers[280..288]);
+        lay(&mut block, 336, &self.numbers[288..304]);
+        lay(&mut block, 1360, &self.numbers[304..]);
+        block
+    }
+
+    // A plane, from a place on.
+    fn plane(&self, from: usize) -> [u16; 64]
+        requires { from ≤ 288 }
+    {
+        let mut plane = [0; 64];
+        for (to, number) in plane.iter_mut().zip(&self.numbers[from..]) {
+            *to = *number;
+        }
+        plane
+    }
+
+    // Configuration, geometry and planes.
+    fn source(&self) -> Source {
+        let mut config = [0; 8];
+        let mut geometry = [0; 7];
+        for (to, from) in config.iter_mut().zip(&self.numbers[2..10]) {
+            *to = i32::from(from.cast_signed());
+        }
+        for (to, from) in geometry.iter_mut().zip(&self.numbers[10..17]) {
+            *to = usize::from(*from);
+        }
+        Source {
+            config,
+            geometry,
+            y: self.plane(24),
+            cb: self.plane(88),
+            cr: self.plane(152),
+        }
+    }
+
+    // The predictor, of seven entries at most.
+    fn predictor(&self) -> [u16; 22] {
+        let mut predictor = [0; 22];
+        predictor.copy_from_slice(&self.numbers[216..238]);
+        predictor
+    }
+
+    // A counter with the generation and the stamp of slot 0.
+    fn counter(&self) -> Counter {
+        let mut stamp = [0; 257];
+        stamp[0] = u32::from(self.numbers[17]) + (u32::from(self.numbers[18]) << 16);
+        stamp[1] = u32::from(self.numbers[19]);
+        Counter {
+            keys: [0; 256],
+            entry: [0; 256],
+            stamp,
+        }
+    }
+
+    // Refusal or 0, and the predictor after it.
+    fn print_update(&self, rt: &impl Print) -> io::Result<()> {
+        let mut predictor = self.predictor();
+        let limit = usize::from(self.numbers[1]);
+        let refusal = velomitra_update(&mut predictor, &self.block(), limit);
+        println!(rt; "{refusal} {}", Numbers(&predictor))
+    }
+
+    // Refusal or 0, and the block after it.
+    fn print_assign(&self, rt: &impl Print) -> io::Result<()> {
+        let Source {
+            config,
+            geometry,
+            y,
+            cb,
+            cr,
+        } = self.source();
+        let mut block = self.block();
+        let transpose = self.numbers[1] == 1;
+        let refusal = velomitra_assign_indices(
+            &y, &cb, &cr, &config, &geometry, transpose, &mut block,
+        );
+        println!(rt; "{refusal} {}", Parts(&block))
+    }
+
+    // Refusal or 0, and the error figure.
+    fn print_sse(&self, rt: &impl Print) -> io::Result<()> {
+        let Source {
+            config,
+            geometry,
+            y,
+            cb,
+            cr,
+        } = self.source();
+        let mut figure = [0];
+        let refusal = velomitra_palette_sse(
+            &y,
+            &cb,
+            &cr,
+            &config,
+            &geometry,
+            &self.block(),
+            &mut figure,
+        );
+        println!(rt; "{refusal} {} ", figure[0])
+    }
+
+    // Refusal or 0, the block after it, and the counter; at the tolerance lent, or else by the luma QP.
+    fn print_analyze(&self, rt: &impl Print, tolerance: Option<u64>) -> io::Result<()> {
+        let Source {
+            config,
+            geometry,
+            y,
+            cb,
+            cr,
+        } = self.source();
+        let known = self.predictor();
+        let mut counter = self.counter();
+        let mut block = self.block();
+        let Counter { keys, entry, stamp } = &mut counter;
+        let refusal = match tolerance {
+            None => velomitra_analyze_palette(
+                &y, &cb, &cr, &config, &geometry, &known, keys, entry, stamp, &mut block,
+            ),
+            Some(tolerance) => velomitra_analyze_with(
+                &y, &cb, &cr, &config, &geometry, &known, tolerance, keys, entry, stamp, &mut block,
+            ),
+        };
+        println!(rt; "{refusal} {}{counter}", Parts(&block))
+    }
+
+    // The line of the record.
+    fn print(&self, rt: &impl Print) -> io::Result<()> {
+        match Call::from(self.numbers[0]) {
+            Call::Update => self.print_update(rt),
+            Call::Assign => self.print_assign(rt),
+            Call::Sse => self.print_sse(rt),
+            Call::Analyze => self.print_analyze(rt, None),
+            Call::AnalyzeWith => self.print_analyze(rt, Some(u64::from(self.numbers[1]))),
+        }
+    }
+}
+
+// Numbers laid in a list from a place on.
+fn lay(list: &mut [u16], at: usize, numbers: &[u16])
+    requires { at + length numbers.now ≤ length list.old }
+{
+    list[at..at + numbers.len()].copy_from_slice(numbers);
 }
 
 // Lines for the records of standard input, at most 93 of them.
 fn main(rt: HostRuntime) -> io::Result<()> {
     let mut input = [0u8; 65536];
     let n = read_full(&mut rt.stdin(), &mut input)?;
-    print_lines(&rt, &input[..n])
+    let (records, _) = input[..n].as_chunks();
+    for bytes in records {
+        Record::of(bytes).print(&rt)?;
+    }
+    Ok(())
 }

@@ -1,5 +1,5 @@
 -- Assignment: the entry nearest to a colour, the lowest number on equal distance; beyond tolerance the cell escapes.
-use Rattle.std.specs.Prelude.{Bool, true, false, List, ℕ, zero, suc, eqb, ltb, leb, get_or}
+use Rattle.std.specs.Prelude.{List, ℕ, zero, suc, eqb, ltb, leb, get_or}
 use Rattle.base.specs.Pick.{pick}
 use Rattle.base.specs.Sums.{how_many}
 use Rattle.quant.specs.Quant.{dist}

@@ -1,9 +1,10 @@
 -- The entry taken is the nearest, lowest on ties; document 01's rule of the previous cell takes the same; what does not escape is within tolerance.
-use Rattle.std.specs.Prelude.{Bool, true, false, List, ◌≡◌, refl, ℕ, zero, suc, ◌+◌, ◌≤◌, ◌<◌, eqb, ltb, leb, get_or}
+use Rattle.std.specs.Prelude.{Bool, true, false, List, ◌≡◌, refl, ℕ, zero, suc, ◌+◌, ◌≤◌, ◌<◌, eqb, get_or}
 use Rattle.std.proofs.Common.{⊎_elim, ap, sym, ◌∙◌, add-one, arith, lt-ltb, le-ltb, le-leb, eqb-true}
 use Rattle.std.proofs.lemmas.Bool.{lt-leb}
 use Rattle.base.specs.Pick.{pick, either, lt_or_le}
-use Rattle.quant.specs.Quant.{y_of, u_of, v_of, dist}
+use Rattle.base.specs.Sums.{how_many, how_many-next}
+use Rattle.quant.specs.Quant.{dist}
 use Rattle.quant.specs.QuantLaws.{dist_self, dist-none}
 use Rattle.assign.specs.Assign.{nearest_to, index_of}
 
@@ -190,3 +191,11 @@ pub found-far : (tol e : ℕ) (ps : List ℕ) (n best err : ℕ) → Found e ps 
 found-far tol e ps n best err f h =
     let l : tol < dist e (get_or ps (nearest_to e ps n) 0) = rw (f.far, f.is) at h in
     sym (index-far tol ps n e l)
+
+-- ---- one cell more, which escapes or does not
+
+pub counted_yes : (f : ℕ → Bool) (i n m : ℕ) → n ≡ how_many i f → f i ≡ true → m ≡ n + 1 → m ≡ how_many (i + 1) f
+counted_yes f i n m e t h = h ∙ rw e (sym (how_many-next f i ∙ rw t))
+
+pub counted_no : (f : ℕ → Bool) (i n m : ℕ) → n ≡ how_many i f → f i ≡ false → m ≡ n → m ≡ how_many (i + 1) f
+counted_no f i n m e t h = h ∙ e ∙ sym (how_many-next f i ∙ rw t)

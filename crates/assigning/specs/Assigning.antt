@@ -1,5 +1,5 @@
 -- Document 01's assignment: index and levels of each cell in scan order, the flags, and the error figure. Colours of the picture are given by column and row of the block.
-use Rattle.std.specs.Prelude.{Bool, true, false, not, List, [], ◌∷◌, ◌++◌, ℕ, ◌*◌, eqb, leb}
+use Rattle.std.specs.Prelude.{Bool, not, List, [], ◌∷◌, ◌++◌, ℕ, ◌*◌, eqb, leb, Result, Ok, Err}
 use Rattle.base.specs.Pick.{pick}
 use Rattle.base.specs.Cells.{laid}
 use Rattle.base.specs.Tests.{every, refusal}
@@ -14,7 +14,8 @@ use Rattle.source.specs.Source.{source_tests}
 use Rattle.assign.specs.Assign.{index_of, escapes_of}
 use Rattle.levels.specs.Levels.{scale_of, levels_at}
 use Rattle.figure.specs.Figure.{scan_sample, block_figure}
-use Rattle.assigning.specs.declared.Assigned.{Assigned}
+use Rattle.refusal.specs.Refusal.{number_of}
+use Rattle.refusal.specs.declared.Refusal.{Refusal}
 
 -- ---- the cells
 
@@ -97,6 +98,15 @@ escapes_in transpose cu sample = leb (escapes transpose cu sample * 4) (cu.size 
 unfoldable pub assign_refusal : List ℕ → List ℕ → List ℕ → PaletteConfig → SourceBlock → Bool → PaletteCu → ℕ
 assign_refusal luma cb cr c g transpose cu =
     refusal (source_tests luma cb cr c g ++ ((block_in c g cu, 7) ∷ (escapes_in transpose cu (color_at luma cb cr c.chroma_idc g), 14) ∷ []))
+
+-- what the call answers: 0 and the block made, or a refusal's number and the block as it came
+pub record Assigned : Type 0 where
+  pub refusal : ℕ
+  pub cu : PaletteCu
+
+abbrev pub as_assigned : PaletteCu → Result PaletteCu Refusal → Assigned
+as_assigned cu (Ok made) = record { refusal = 0; cu = made }
+as_assigned cu (Err r) = record { refusal = number_of r; cu = cu }
 
 -- the block that assignment makes, or a refusal and the block as it came
 unfoldable pub assign_of : List ℕ → List ℕ → List ℕ → PaletteConfig → SourceBlock → Bool → PaletteCu → Assigned

@@ -1,32 +1,31 @@
 -- Every block that assignment accepts holds together, where its reuse flags and signalled entries do, as analysis makes them; and its cells are within tolerance.
-use Rattle.std.specs.Prelude.{Bool, false, not, List, [], ◌∷◌, ◌++◌, ◌≡◌, refl, ℕ, ◌+◌, ◌*◌, ◌-◌, ◌≤◌, ◌<◌, min, get_or, length}
+use Rattle.std.specs.Prelude.{Bool, false, not, List, ◌≡◌, refl, ℕ, ◌+◌, ◌*◌, ◌-◌, ◌≤◌, ◌<◌, min, get_or, length}
 use Rattle.std.proofs.Math.Bool.{true}
-use Rattle.std.proofs.Common.{⊎_elim, ap, sym, ◌∙◌, mul-le-mul, arith}
+use Rattle.std.proofs.Common.{sym, ◌∙◌, mul-le-mul, arith}
 use Rattle.std.proofs.Math.Dec.{eqb, leb}
-use borrow.Author.Tests.{le-leb, leb-true, eqb-true, eqb-false, ne_eqb}
+use borrow.Author.Tests.{le-leb, eqb-true, eqb-false, ne_eqb}
 use Rattle.base.specs.Pick.{pick, either, true_false}
 use Rattle.base.specs.Cells.{laid, laid_in}
-use Rattle.base.specs.Sums.{how_many, how_many_zero}
-use Rattle.base.specs.Tests.{every, any, both, up_to, at_up_to}
+use Rattle.base.specs.Sums.{how_many_zero}
+use Rattle.base.specs.Tests.{at_up_to}
 use Rattle.h265.specs.EscapeLaws.{step_at-low}
 use Rattle.h265.specs.Strings.{bit}
 use Rattle.quant.specs.Quant.{y_of, u_of, v_of, dist, quantised, level_of}
 use Rattle.quant.specs.QuantLaws.{level-small}
-use Rattle.model.specs.Domain.{config_in, most, even_in, size_in, depth_in}
-use Rattle.model.specs.Whole.{max_index, block_size_in, matches, format_holds, counts_hold, entries_hold, level_in, levels_in, no_levels, cell_holds, empty_holds, holds, assignable}
-use Rattle.model.specs.declared.Levels.{Levels}
+use Rattle.model.specs.Domain.{most}
+use Rattle.model.specs.Whole.{max_index, block_size_in, format_holds, counts_hold, entries_hold, level_in, levels_in, no_levels, cell_holds, empty_holds, holds}
 use Rattle.model.specs.declared.PaletteConfig.{PaletteConfig}
 use Rattle.model.specs.declared.PaletteCu.{PaletteCu}
 use Rattle.model.specs.declared.SourceBlock.{SourceBlock}
 use Rattle.entries.specs.Entries.{palette_of}
 use Rattle.samples.specs.Samples.{color_at}
-use Rattle.assign.specs.Assign.{index_of, escapes_of}
+use Rattle.assign.specs.Assign.{escapes_of}
 use Rattle.assign.specs.Laws.{index_le, index-within}
 use Rattle.levels.specs.Laws.{Small}
 use Rattle.levels.specs.Levels.{scale_of, levels_of, levels_at}
-use Rattle.figure.specs.Figure.{scan_sample, block_figure}
-use Rattle.assigning.specs.Assigning.{index_at, cell_levels, escapes, with_cells, with_sse, mapped, assigned, assign_refusal, assign_of}
-use Rattle.assigning.specs.Laws.{Takes, Matched, accepted, Accepted}
+use Rattle.figure.specs.Figure.{scan_sample}
+use Rattle.assigning.specs.Assigning.{index_at, cell_levels, escapes, mapped, assigned, assign_of}
+use Rattle.assigning.specs.Laws.{Takes, Matched, accepted}
 
 -- ---- levels
 

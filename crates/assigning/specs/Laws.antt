@@ -1,5 +1,5 @@
 -- What the code makes is what assignment makes; only the colours in the block count.
-use Rattle.std.specs.Prelude.{Bool, not, List, [], ◌∷◌, ◌++◌, ℕ, ◌+◌, ◌*◌, ◌≤◌, ◌<◌, leb, get_or, length}
+use Rattle.std.specs.Prelude.{Bool, not, List, [], ◌∷◌, ℕ, ◌+◌, ◌*◌, ◌≤◌, ◌<◌, leb, get_or, length}
 use Rattle.std.proofs.Math.Bool.{true, false}
 use Rattle.std.proofs.Common.{⊎_elim, sym, ◌∙◌, arith}
 use Rattle.std.proofs.Math.Path.{◌≡◌, refl, ap}
@@ -31,8 +31,7 @@ use Rattle.levels.specs.Laws.{Small}
 use Rattle.levels.specs.Levels.{scale_of, levels_at}
 use Rattle.figure.specs.Figure.{scan_sample, block_figure}
 use Rattle.figure.specs.Laws.{in_rows, scan_same, block_same}
-use Rattle.assigning.specs.declared.Assigned.{Assigned}
-use Rattle.assigning.specs.Assigning.{index_at, cell_levels, escapes, with_cells, with_sse, mapped, assigned, block_in, escapes_in, assign_refusal, assign_of}
+use Rattle.assigning.specs.Assigning.{Assigned, index_at, cell_levels, escapes, with_cells, with_sse, mapped, assigned, block_in, escapes_in, assign_refusal, assign_of}
 
 -- ---- what refusals 1 to 7 leave
 

@@ -1,5 +1,5 @@
 -- What holds of each element of a list.
-use Rattle.std.specs.Prelude.{◌≡◌, refl, List, [], ◌∷◌, ◌++◌, map, ℕ, zero, suc, ◌≤◌, ◌<◌, length, take, drop, get_or}
+use Rattle.std.specs.Prelude.{List, [], ◌∷◌, ◌++◌, map, ℕ, zero, suc, ◌<◌, length, take, drop, get_or}
 use Rattle.std.proofs.Common.{arith}
 use Rattle.base.specs.Codes.{All}
 

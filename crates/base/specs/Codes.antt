@@ -1,6 +1,6 @@
 -- Codes made of codes: a value sent only where a test holds, and one value for each of a list.
-use Rattle.std.specs.Prelude.{◌≡◌, refl, Bool, true, false, ℕ, zero, suc, ◌+◌, ◌≤◌, ◌<◌, length}
-use Rattle.std.proofs.Common.{ap, sym, ◌∙◌, arith}
+use Rattle.std.specs.Prelude.{◌≡◌, refl, Bool, true, false, ℕ, suc, length}
+use Rattle.std.proofs.Common.{ap, sym}
 use mathlib.Core.List.{List, [], ◌∷◌, ◌++◌}
 use Rattle.base.specs.Pick.{pick, true_false}
 use Rattle.base.specs.Answer.{Answer, Value, onward, went, same-value, same_place}

@@ -1,6 +1,6 @@
 -- A fixed array with a count: its first `count` elements as a list. Push, read on, end.
-use Rattle.std.specs.Prelude.{◌≡◌, refl, Bool, true, false, List, [], ◌∷◌, ◌++◌, ℕ, zero, suc, ◌+◌, ◌-◌, ◌≤◌, ◌<◌, length, take, drop, get_or, set}
-use Rattle.std.proofs.Common.{ap, sym, ◌∙◌, arith, add-one, drop_of_length-le, drop-cons, get_or-take, length-take-le, take-suc-set}
+use Rattle.std.specs.Prelude.{◌≡◌, List, [], ◌∷◌, ◌++◌, ℕ, ◌+◌, ◌≤◌, ◌<◌, length, take, drop, get_or, set}
+use Rattle.std.proofs.Common.{arith, add-one, drop_of_length-le, drop-cons, get_or-take, length-take-le, take-suc-set}
 
 module _ {A : Type 0} (xs : List A) (count : ℕ) where
   pub push : (a : A) → count < length xs → take (count + 1) (set xs count a) ≡ take count xs ++ (a ∷ [])

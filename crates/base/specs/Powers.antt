@@ -1,5 +1,5 @@
 -- Powers of two, as omega wants them.
-use Rattle.std.specs.Prelude.{◌≡◌, refl, Bool, true, false, ℕ, ◌+◌, ◌^◌, ◌≤◌, ◌<◌, ltb}
+use Rattle.std.specs.Prelude.{◌≡◌, ℕ, ◌+◌, ◌^◌, ◌<◌, ltb}
 use Rattle.std.proofs.Common.{add-one, arith, pow_mono, ltb-true, ltb-false}
 use Rattle.base.specs.Pick.{either}
 

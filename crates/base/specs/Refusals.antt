@@ -1,6 +1,6 @@
 -- Refusals one after the other: the first list of tests decides where one of it fails, else the rest.
 use Rattle.std.specs.Prelude.{◌≡◌, refl, Bool, true, false, List, [], ◌∷◌, ◌++◌, ℕ, ◌≤◌, eqb}
-use Rattle.std.proofs.Common.{sym, ◌∙◌, arith, ne_eqb}
+use Rattle.std.proofs.Common.{◌∙◌, arith, ne_eqb}
 use Rattle.base.specs.Pick.{pick}
 use Rattle.base.specs.Tests.{refusal}
 

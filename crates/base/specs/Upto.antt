@@ -1,11 +1,10 @@
 -- Bounds on f32 sums: the sum of a number from 0 to j and one from 0 to k is a number from 0 to j + k, up to 2^24; so sums stay finite.
-use Rattle.std.proofs.Common.{true≢false, sym, ◌∙◌, ap, subst, inl, inr, ⊎_elim, le_of_mul-le-mul_right, mul_right_comm, mul_comm, mul_assoc, mul-le-mul_right, le_of_eq, le_trans, mul-one, one-mul, mul-pos, zero-mul, add-mul, le_of_lt, add-le-add, eq-zero-or-pos, arith, le-ltb, ltb-false, ne_eqb, lit<, lit≤, ltb→lt, eqb→eq}
-use Rattle.std.specs.Prelude.{Bool, true, false, not, ◌&&◌, ◌||◌, cond, ◌≡◌, refl, ◌⊎◌, ℕ, zero, suc, ◌+◌, ◌-◌, ◌*◌, ◌/◌, ◌<◌, ◌≤◌, ◌^◌, T, ltb, eqb, ℤ, pos, negsuc, Float}
-use Rattle.std.specs.Bool.{beq}
+use Rattle.std.proofs.Common.{true≢false, sym, ◌∙◌, ap, inl, inr, ⊎_elim, le_of_mul-le-mul_right, mul_right_comm, mul_comm, mul_assoc, mul-le-mul_right, le_of_eq, le_trans, mul-one, one-mul, mul-pos, zero-mul, add-mul, le_of_lt, add-le-add, eq-zero-or-pos, arith, le-ltb, ltb-false, ne_eqb, lit<, lit≤, ltb→lt, eqb→eq}
+use Rattle.std.specs.Prelude.{Bool, true, false, ◌&&◌, ◌||◌, cond, ◌≡◌, refl, ◌⊎◌, ℕ, suc, ◌+◌, ◌-◌, ◌*◌, ◌<◌, ◌≤◌, ◌^◌, T, ltb, eqb, ℤ, pos, Float}
 use Rattle.std.specs.Float.{nan, inf, fin, Format, binary32}
-use Rattle.std.specs.Float.Ieee.{add, div, sum, round, units, odd, le, lt, eq, up, down, prec, emax, low, below, level, of_int, of_bits}
+use Rattle.std.specs.Float.Ieee.{add, div, sum, round, units, odd, le, lt, eq, up, down, prec, emax, low, of_int, of_bits}
 use Rattle.std.specs.Float.Ieee.Exact.{HasValue, odd_sign}
-use Rattle.std.specs.Float.Ieee.Fits.{round_is, up_pos, down_pos, core}
+use Rattle.std.specs.Float.Ieee.Fits.{round_is, up_pos, down_pos}
 use Rattle.std.specs.Float.Ieee.Back.{round_whole}
 use Rattle.std.specs.Float.Ieee.Order.{round_mono}
 use Rattle.std.specs.Float.Ieee.Scale.{round_same}

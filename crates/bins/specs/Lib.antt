@@ -1,2 +1,1 @@
-pub mod As
 pub mod Logarithm

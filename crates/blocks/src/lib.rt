@@ -14,17 +14,11 @@ use model::{Color, Levels, PaletteConfig, PaletteCu};
 pub fn pack_predictor(colors: [Color; 128]) -> [u64; 128]
     ensures { result ≡ map packed_of colors }
 {
-    let mut out: [u64; 128] = [0; 128];
-    let mut i: usize = 0;
-    while i < 128 {
-        let c = colors[i];
-        out[i] = entries::pack(c.y, c.cb, c.cr);
-        i += 1;
-    }
-    out
+    colors.map(|c| entries::pack(c.y, c.cb, c.cr))
 }
 
 // A number as a colour.
+#[tactic(auto, unfolding(crate::specs::Blocks::color_of))]
 fn unpack(x: u64) -> Color
     ensures { result ≡ color_of x }
 {
@@ -39,17 +33,11 @@ fn unpack(x: u64) -> Color
 fn unpack_palette(palette: [u64; 64]) -> [Color; 64]
     ensures { result ≡ map color_of palette }
 {
-    let mut out = [Color { y: 0, cb: 0, cr: 0 }; 64];
-    let mut i: usize = 0;
-    while i < 64 {
-        let c = unpack(palette[i]);
-        out[i] = c;
-        i += 1;
-    }
-    out
+    palette.map(unpack)
 }
 
 // The blank block: all 0 or off.
+#[tactic(auto, unfolding(model::specs::Blank::blank_cu))]
 pub fn blank() -> PaletteCu
     ensures { result ≡ blank_cu }
 {
@@ -78,18 +66,17 @@ pub fn made(c: PaletteConfig, size: usize, predictors: usize, tol: u64, w: Paint
     requires { w.reused ≤ w.size }
     ensures { result ≡ block_with c size predictors tol w }
 {
-    let numbers = w.palette;
-    let colors = unpack_palette(numbers);
-    let flags = w.flags;
+    let palette = unpack_palette(w.palette);
+    let reused = w.flags;
     PaletteCu {
-        size: size,
+        size,
         chroma_idc: c.chroma_idc,
         bd_luma: c.bd_luma,
         bd_chroma: c.bd_chroma,
         lossless: c.lossless,
-        palette: colors,
+        palette,
         palette_size: w.size,
-        reused: flags,
+        reused,
         pred_size: predictors,
         num_signaled: w.size - w.reused,
         escape_present: false,

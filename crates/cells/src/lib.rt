@@ -11,22 +11,19 @@ pub fn reference_in(xs: &[u8; 1024], above: &[u8; 1024], p: usize, k: bool) -> u
     ensures { result ≡ reference_in xs.now above.now p k }
 {
     if p == 0 {
-        return 0;
+        0
+    } else if k {
+        above[p]
+    } else {
+        xs[p - 1]
     }
-    if k {
-        return above[p];
-    }
-    xs[p - 1]
 }
 
 // Whether an index run may start at p.
 pub fn draws_from(p: usize, v: u8, reference: u8) -> bool
     ensures { result ≡ draws_from p v reference }
 {
-    if p == 0 {
-        return true;
-    }
-    v != reference
+    p == 0 || v != reference
 }
 
 // The index that an index run at p sends.
@@ -34,10 +31,10 @@ pub fn sent_from(p: usize, v: u8, reference: u8) -> u32
     ensures { result ≡ sent_from p v reference }
 {
     if p == 0 {
-        return v as u32;
+        u32::from(v)
+    } else if reference < v {
+        u32::from(v - 1)
+    } else {
+        u32::from(v)
     }
-    if reference < v {
-        return (v - 1) as u32;
-    }
-    v as u32
 }

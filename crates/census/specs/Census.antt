@@ -1,5 +1,5 @@
 -- The colours of a block as first met, and how often each is met. Definitions only.
-use Rattle.std.specs.Prelude.{Bool, true, false, List, [], ◌∷◌, ◌++◌, ℕ, zero, suc, ◌+◌, ◌*◌, eqb, ltb, get_or, set, length}
+use Rattle.std.specs.Prelude.{Option, None, Some, Bool, true, List, [], ◌∷◌, ◌++◌, ℕ, zero, suc, ◌+◌, ◌*◌, eqb, ltb, get_or, set, length}
 use Rattle.base.specs.Pick.{pick}
 use Rattle.base.specs.Lists.{padded}
 use Rattle.colors.specs.Place.{place_of, seen}
@@ -37,6 +37,11 @@ census d ms cs = record { distinct = d; met = padded 128 0 ms; counts = padded 1
 -- colours and counts of a block; 129 stands for any number above 128, and then there are none
 unfoldable pub census_of : List ℕ → ℕ → Census
 census_of xs n = pick (ltb 128 (length (met xs n))) (census 129 [] []) (census (length (met xs n)) (met xs n) (counts xs n))
+
+-- an answer's colours; where it is none there are more than 128
+abbrev pub as_census : Option Census → Census
+as_census None = census 129 [] []
+as_census (Some found) = found
 
 -- the counter's table after the count, which ends at the 129th colour
 unfoldable pub table_to : Table → ℕ → List ℕ → ℕ → Table

@@ -1,17 +1,19 @@
 -- The count on its way: one turn of the loop over the samples, and its two ends.
-use Rattle.std.specs.Prelude.{List, [], ◌∷◌, ◌++◌, ◌≡◌, ℕ, zero, suc, ◌+◌, ◌-◌, ◌≤◌, ◌<◌, get_or, set, take}
-use Rattle.std.proofs.Common.{⊎_elim, sym, ◌∙◌, ap, subst, add-zero, add-suc, add-one, lt-ltb, le-ltb, length-append, get_or-take, length-take-le, get_or-set_same, set-set}
+use Rattle.std.specs.Prelude.{Bool, ◌==◌, drop, List, [], ◌∷◌, ◌++◌, ◌≡◌, ℕ, zero, suc, ◌+◌, ◌-◌, ◌≤◌, ◌<◌, get_or, set, take}
+use Rattle.std.proofs.Common.{eqb-true, eq-eqb, length-drop, get_or-drop, take_all, ⊎_elim, sym, ◌∙◌, ap, subst, add-zero, add-suc, add-one, lt-ltb, le-ltb, length-append, get_or-take, length-take-le, get_or-set_same, set-set}
 use Rattle.std.proofs.Math.Path.{refl}
 use native.Mathlib.Omega.{arith}
 use Rattle.std.proofs.Math.ListN.{length}
 use Rattle.std.proofs.lemmas.List.{set-get_or}
-use Rattle.base.specs.Pick.{lt_or_le}
+use Rattle.std.proofs.lemmas.List.Sums.{prefix_len-le-length, prefix_len_passes, prefix_len_stops}
+use Rattle.std.specs.List.{prefix_len}
+use Rattle.base.specs.Pick.{lt_or_le, true_false}
 use Rattle.base.specs.Lists.{padded, padded-length, padded-take, padded-read, padded-set, padded-push}
-use Rattle.colors.specs.Place.{place_of, place_le, place_at, Distinct, seen, seen_old, seen_new}
+use Rattle.colors.specs.Place.{place_of, place_le, place_at, Distinct, seen_old, seen_new}
 use Rattle.colors.specs.Table.{Table, answer_of, after_of, Holds}
 use Rattle.colors.specs.Laws.{answers, keeps, hit-keeps}
 use Rattle.census.specs.declared.Census.{Census}
-use Rattle.census.specs.Census.{met_by, itself, met, tally, counts, census, census_of, table_to}
+use Rattle.census.specs.Census.{met_by, itself, met, counts, census, census_of, table_to}
 use Rattle.census.specs.Laws.{met_next, counts-next, tally_old, tally_new, met_distinct, met_mono, one_le_total, counts-length, counts-total}
 
 -- one sample noted: its place p among d colours
@@ -74,7 +76,7 @@ module _ {t₀ t : Table} {g : ℕ} {xs : List ℕ} {i d : ℕ} {ms cs : List �
     going_at : p ≡ place_of key (met xs i)
     going_at = a ∙ ap (answer_of t g key) v.count ∙ answers t g (met xs i) key v.holds (omega (arith, v.few, v.count))
 
-    going_le : p ≤ d
+    pub going_le : p ≤ d
     going_le = omega (arith, place_le key (met xs i), v.count, going_at)
 
     going_holds : Holds t' g (met xs (i + 1))
@@ -207,3 +209,22 @@ going_on {t₀} {t} {t'} {g} {xs} {i} {d} {key} {p} {ms} {cs} {ms'} {cs'} {cs''}
     let z : i + 1 + (j - (i + 1)) ≡ j = omega (arith, u.low) in
     let y : p < length cs' = omega (arith, going_wide w, h.0, w.few) in
     going_as (going_run w p h.0 y (j - (i + 1)) (λ m x s. u.same m x (omega arith) ∙ sym h.1)) z (sym e)
+
+-- a run goes on as far as what is behind its first is of its colour
+pub run_of : (xs : List ℕ) (from key more : ℕ) → from ≤ length xs → more ≡ prefix_len (λ x. x == key) (take (length xs - from) (drop from xs)) → Run xs (length xs) from key (from + more)
+run_of xs from key more h c =
+    let p : ℕ → Bool = λ x. x == key in
+    let all : take (length xs - from) (drop from xs) ≡ drop from xs = take_all (length xs - from) (drop from xs) (omega (arith, length-drop from xs)) in
+    let e : more ≡ prefix_len p (drop from xs) = c ∙ ap (prefix_len p) all in
+    let l : prefix_len p (drop from xs) ≤ length (drop from xs) = prefix_len-le-length p (drop from xs) in
+    let w : length (drop from xs) ≡ length xs - from = length-drop from xs in record {
+      low = omega arith;
+      high = omega arith;
+      same = λ j a b.
+          let q : from + (j - from) ≡ j = omega arith in
+          let r = prefix_len_passes p (drop from xs) (j - from) 0 (omega arith) in
+          eqb-true (get_or xs j 0) key (rw (get_or-drop from xs (j - from) 0, q) at r);
+      end = λ a b.
+          let r = prefix_len_stops p (drop from xs) 0 (omega arith) in
+          true_false (sym (eq-eqb (get_or xs (from + more) 0) key b) ∙ rw (get_or-drop from xs (prefix_len p (drop from xs)) 0, ← e) at r);
+    }

@@ -1,13 +1,14 @@
 -- The laws of counting: colours met are distinct, a count says how often its colour stands among the samples, and the counts sum to n.
-use Rattle.std.specs.Prelude.{List, [], ◌∷◌, ◌++◌, ◌≡◌, refl, ℕ, zero, suc, ◌+◌, ◌≤◌, ◌<◌, length, get_or, set}
+use Rattle.std.specs.Prelude.{ltb, List, [], ◌∷◌, ◌++◌, ◌≡◌, refl, ℕ, zero, suc, ◌+◌, ◌≤◌, ◌<◌, length, get_or, set}
 use Rattle.std.proofs.Common.{⊎_elim, sym, ◌∙◌, ap, subst, arith, add-zero, add-suc, add-one, eq-eqb, ne_eqb, lt-ltb, le-ltb, length-set, length-append, get_or-set_same, get_or-set_other}
 use Rattle.std.proofs.Math.ListN.{get_or-append}
 use Rattle.std.proofs.Math.Seq.{get_or-append_seam}
 use Rattle.base.specs.Alls.{all_append}
 use Rattle.base.specs.Codes.{All}
-use Rattle.base.specs.Pick.{lt_or_le, eq_or_ne}
+use Rattle.base.specs.Pick.{pick, lt_or_le, eq_or_ne}
 use Rattle.colors.specs.Place.{place_of, place_le, place_at, place_other, Distinct, distinct_more, seen, seen_old, seen_new, seen-length, seen_has, seen-keeps}
-use Rattle.census.specs.Census.{met_by, itself, met, tally, counts, total, occurs}
+use Rattle.census.specs.Census.{met_by, itself, met, tally, counts, table_to, total, occurs}
+use Rattle.colors.specs.Table.{Table, after_of}
 
 pub met_next : (f : ℕ → ℕ) (xs : List ℕ) (i : ℕ) → met_by f xs (i + 1) ≡ seen (met_by f xs i) (f (get_or xs i 0))
 unfolding met_by
@@ -184,3 +185,11 @@ pub counts_ext : (xs ys : List ℕ) (n : ℕ) → ((i : ℕ) → i < n → get_o
 unfolding counts
 counts_ext xs ys zero h = refl
 counts_ext xs ys (suc i) h = (λ j. tally (met_ext itself xs ys i (λ k l. h k (omega arith)) j) (counts_ext xs ys i (λ k l. h k (omega arith)) j) (h i (omega arith) j))
+
+pub table_ext : (t : Table) (g : ℕ) (xs ys : List ℕ) (n : ℕ) → ((i : ℕ) → i < n → get_or xs i 0 ≡ get_or ys i 0) → table_to t g xs n ≡ table_to t g ys n
+unfolding table_to
+table_ext t g xs ys zero h = refl
+table_ext t g xs ys (suc i) h =
+    let m = met_ext itself xs ys i (λ k l. h k (omega arith)) in
+    let s = table_ext t g xs ys i (λ k l. h k (omega arith)) in
+    (λ j. pick (ltb 128 (length (m j))) (s j) (after_of (s j) g (h i (omega arith) j) (length (m j))))

@@ -1,12 +1,16 @@
 // Counting a block's colours, given as packed numbers in row order.
 #![tactic(auto)]
 
-ghost use Rattle.std.specs.Prelude.{◌≡◌, List, [], ◌∷◌, ℕ, ◌+◌, ◌*◌, ◌<◌, ◌≤◌, get_or, set};
+ghost use Rattle.std.specs.Prelude.{◌≡◌, [], ◌+◌, ◌<◌, ◌≤◌, ◌==◌, IfSome, get_or, length};
+ghost use Rattle.std.specs.List.{prefix_len};
 ghost use Rattle.colors.specs.Table.{tab, Holds};
-ghost use Rattle.census.specs.Census.{census_of, table_to};
-ghost use Rattle.census.specs.Going.{Noted, Run};
+ghost use Rattle.census.specs.Census.{as_census, census_of, table_to};
+ghost use Rattle.census.specs.Going.{Noted};
+
+use colors::ColorIndex;
 
 // The distinct colours of a block as first met, with their counts; 0 behind them.
+// Stays arrays with a count: no heap, and `census` names the two lists.
 #[derive(Clone, Copy)]
 pub struct Census {
     pub distinct: usize,
@@ -14,87 +18,56 @@ pub struct Census {
     pub counts: [u32; 128],
 }
 
-// A number, as a place.
-fn wide(x: u16) -> usize
-    ensures { result ≡ x }
-{
-    x as usize
-}
-
-// One sample noted: at its colour's place p, or as the first of its colour.
-fn note(met: &mut [u64; 128], counts: &mut [u32; 128], p: usize, d: usize, key: u64) -> usize
-    requires { (p < 128) × (d ≤ p → d < 128) × (p < d → get_or counts.old p 0 ≤ 1024) }
-    ensures { Noted met.old met.new counts.old counts.new p d key result }
-{
-    if p < d {
-        counts[p] = counts[p] + 1;
-        return d;
-    }
-    met[d] = key;
-    counts[d] = 1;
-    d + 1
-}
-
-// Where a run of a colour ends: the first place from a given one on that has another, or n.
-fn run_end(samples: &[u64; 1024], n: usize, from: usize, key: u64) -> usize
-    requires { (n ≤ 1024) × (from ≤ n) }
-    ensures { Run samples.now n from key result }
-{
-    let mut j = from;
-    while j < n {
-        if samples[j] != key {
-            return j;
+impl Census {
+    // One sample noted: at its colour's place p, or as the first of its colour.
+    fn note(&mut self, p: usize, key: u64)
+        requires { (p < 128) × (self.old.distinct ≤ p → self.old.distinct < 128) × (p < self.old.distinct → get_or self.old.counts p 0 ≤ 1024) }
+        ensures { Noted self.old.met self.new.met self.old.counts self.new.counts p self.old.distinct key self.new.distinct }
+    {
+        if p < self.distinct {
+            self.counts[p] += 1;
+        } else {
+            self.met[self.distinct] = key;
+            self.counts[self.distinct] = 1;
+            self.distinct += 1;
         }
-        j += 1;
     }
-    j
 }
 
-// A colour's count, so many more.
-fn add(counts: &mut [u32; 128], p: usize, more: usize)
-    requires { (p < 128) × (get_or counts.old p 0 ≤ 1024) × (more ≤ 1024) }
-    ensures { counts.new ≡ set counts.old p (get_or counts.old p 0 + more) }
+// How many samples there are of a colour before the first of another.
+fn run(samples: &[u64], key: u64) -> usize
+    ensures { (result ≡ prefix_len (λ x. x == key) samples.now) × (result ≤ length samples.now) }
 {
-    counts[p] = counts[p] + more as u32;
+    samples.iter().take_while(|x| **x == key).count()
 }
 
-// The colours of n samples with their counts, a run of one colour at a turn; 129 and none where there are more than 128.
-pub fn count(
-    samples: &[u64; 1024],
-    n: usize,
-    keys: &mut [u64; 256],
-    entry: &mut [u16; 256],
-    stamp: &mut [u32; 256],
-    generation: u32,
-) -> Census
-    requires n_bound { n ≤ 1024 }
-    requires holds { Holds (tab keys.old entry.old stamp.old) generation [] }
-    ensures { (result ≡ census_of samples.now n)
-        × (tab keys.new entry.new stamp.new
-        ≡ table_to (tab keys.old entry.old stamp.old) generation samples.now n) }
+// The colours of the samples with their counts, a run of one colour at a turn; none where there are more than 128.
+pub fn count(samples: &[u64], counter: &mut ColorIndex) -> Option<Census>
+    requires samples_len { length samples.now ≤ 1024 }
+    requires holds { Holds (tab counter.old.keys counter.old.entry counter.old.stamp) counter.old.generation [] }
+    ensures found { as_census result ≡ census_of samples.now (length samples.now) }
+    ensures few { IfSome result (λ found. found.distinct ≤ 128) }
+    ensures table { tab counter.new.keys counter.new.entry counter.new.stamp
+        ≡ table_to (tab counter.old.keys counter.old.entry counter.old.stamp) counter.old.generation samples.now (length samples.now) }
+    ensures kept { counter.new.generation ≡ counter.old.generation }
 {
-    let mut met: [u64; 128] = [0; 128];
-    let mut counts: [u32; 128] = [0; 128];
-    let mut d: usize = 0;
-    let mut i: usize = 0;
-    while i < n {
+    let mut found = Census {
+        distinct: 0,
+        met: [0; 128],
+        counts: [0; 128],
+    };
+    let mut i = 0;
+    // Stays a while: a turn's step is the length of a run.
+    while i < samples.len() {
         let key = samples[i];
-        let p = wide(colors::lookup_or_insert(keys, entry, stamp, generation, key, d as u16));
+        let p = usize::from(counter.lookup_or_insert(key, found.distinct as u16));
         if p == 128 {
-            return Census {
-                distinct: 129,
-                met: [0; 128],
-                counts: [0; 128],
-            };
+            return None;
         }
-        d = note(&mut met, &mut counts, p, d, key);
-        let j = run_end(samples, n, i + 1, key);
-        add(&mut counts, p, j - (i + 1));
-        i = j;
+        found.note(p, key);
+        let more = run(&samples[i + 1..], key);
+        found.counts[p] += more as u32;
+        i += more + 1;
     }
-    Census {
-        distinct: d,
-        met: met,
-        counts: counts,
-    }
+    Some(found)
 }

@@ -1,18 +1,18 @@
 -- What the functions want of the definitions.
-use Rattle.std.specs.Prelude.{◌≡◌, refl, true, List, [], ◌∷◌, ℕ, zero, suc, ◌+◌, ◌*◌, ◌-◌, ◌≤◌, ◌<◌, Float, get_or, length}
-use Rattle.std.proofs.Common.{ap, sym, ◌∙◌, le_refl, arith}
+use Rattle.std.specs.Prelude.{◌≡◌, refl, true, List, ℕ, ◌+◌, ◌*◌, ◌≤◌, ◌<◌, Float, get_or, length}
+use Rattle.std.proofs.Common.{ap, ◌∙◌, le_refl, arith}
 use Rattle.std.proofs.Math.Bool.{Bool, false}
-use Rattle.std.specs.Float.{nan, binary32}
-use Rattle.std.specs.Float.Ieee.{add, lt, of_bits}
+use Rattle.std.specs.Float.{binary32}
+use Rattle.std.specs.Float.Ieee.{lt, of_bits}
 use Rattle.base.specs.Cells.{laid, laid_in}
-use Rattle.base.specs.Pick.{pick, either}
+use Rattle.base.specs.Pick.{either}
 use Rattle.h265.specs.Scan.{above_at}
 use Rattle.paths.specs.Cells.{index_length, above_length}
 use Rattle.paths.specs.Stretch.{next_stretch}
-use Rattle.paths.specs.Plan.{Price, Job, job, Table, tab, Point, infinite, swept, fresh, trail, runs_of, end_cost, last_kind, planned}
+use Rattle.paths.specs.Plan.{Price, Job, job, Table, tab, infinite, swept, fresh, trail, end_cost, last_kind, planned}
 use Rattle.paths.specs.Sunk.{done_sunk}
 use Rattle.relax.specs.JumpLaws.{Tables}
-use Rattle.walk.specs.Points.{Falls, Rising, runs_in}
+use Rattle.walk.specs.Points.{Falls}
 use Rattle.walk.specs.PointLaws.{trail_rising, runs_are}
 use Rattle.cheapest.specs.Chart.{Charted}
 

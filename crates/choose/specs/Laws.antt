@@ -1,13 +1,13 @@
 -- The laws of the choice: sizes, flags, and what the palette starts with.
-use Rattle.std.specs.Prelude.{Bool, true, false, List, [], ◌∷◌, ◌++◌, ◌≡◌, refl, ℕ, zero, suc, ◌+◌, ◌≤◌, ◌<◌, length, take, drop}
-use Rattle.std.proofs.Common.{⊎_elim, sym, ◌∙◌, ap, arith, lt-ltb, le-ltb, length-append, length-drop, length-take-le}
+use Rattle.std.specs.Prelude.{List, [], ◌∷◌, ◌≡◌, refl, ℕ, suc, ◌+◌, ◌≤◌, ◌<◌, length, take, drop}
+use Rattle.std.proofs.Common.{⊎_elim, ap, arith, lt-ltb, le-ltb, length-append, length-drop, length-take-le}
 use Rattle.base.specs.Alls.{all_append, all_take, all_drop}
 use Rattle.base.specs.Codes.{All}
 use Rattle.base.specs.Pick.{lt_or_le}
 use Rattle.h265.specs.Reuse.{trues, flagged}
 use Rattle.reps.specs.Reps.{hit_of, reps}
 use Rattle.reps.specs.Laws.{reps_le}
-use Rattle.choose.specs.Choose.{without, Chosen, taken, passed, chosen}
+use Rattle.choose.specs.Choose.{without, taken, passed, chosen}
 
 -- the choice, one entry on
 pub chosen-hit : (tol e : ℕ) (es free : List ℕ) → hit_of tol e free < length free → chosen tol (e ∷ es) free ≡ taken e (chosen tol es (without (hit_of tol e free) free))

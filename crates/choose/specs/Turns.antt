@@ -1,10 +1,12 @@
 -- The turns of the choice's loops, over the arrays that the code holds.
-use Rattle.std.specs.Prelude.{Bool, true, List, [], ◌∷◌, ◌++◌, ◌≡◌, refl, ℕ, suc, ◌+◌, ◌-◌, ◌≤◌, ◌<◌, get_or, set, drop, replicate}
+use Rattle.std.specs.Prelude.{Bool, true, List, ◌∷◌, ◌++◌, ◌≡◌, refl, ℕ, suc, ◌+◌, ◌-◌, ◌≤◌, ◌<◌, get_or, set, drop, replicate}
 use Rattle.std.proofs.Math.Bool.{false}
-use Rattle.std.proofs.Common.{append_assoc, append-nil, ⊎_elim, ◌∙◌, ap, arith, add-one, length-set, drop-set-lt, take-take}
+use Rattle.std.proofs.Common.{append_assoc, append-nil, ⊎_elim, ◌∙◌, ap, arith, add-one, length-set, length-drop, drop-set-lt, take-take}
 use Rattle.std.proofs.Math.Path.{sym}
 use Rattle.std.proofs.Math.ListN.{length, take}
-use Rattle.std.proofs.Math.Seq.{slice, slice_empty, slice-cons, take-set-lt, length-take-le}
+use Rattle.std.proofs.lemmas.List.{drop-take}
+use Rattle.std.proofs.lemmas.List.Edits.{take-paste}
+use Rattle.std.proofs.Math.Seq.{paste, slice, slice_empty, slice-cons, length-take-le}
 use Rattle.base.specs.Pick.{lt_or_le}
 use Rattle.base.specs.Counted.{push}
 use Rattle.base.specs.Lists.{padded, padded-is}
@@ -22,37 +24,17 @@ trues-off : (bs : List Bool) → trues (false ∷ bs) ≡ trues bs
 unfolding trues
 trues-off bs = refl
 
--- the removal of what stands at r among m, on its way
-pub record Removing (l₀ : List ℕ) (m r : ℕ) (l : List ℕ) (j : ℕ) : Type 0 where
-  pub wide : length l ≡ 64
-  pub inside : j < m
-  pub whole : take j l ++ drop (j + 1) (take m l) ≡ without r (take m l₀)
+-- what stands at r taken out of the first m: what is behind it moves one place on
+removed_of : (l : List ℕ) (r n : ℕ) → r + 1 + n ≤ length l → take (r + n) (paste l r (drop (r + 1) l) n) ≡ without r (take (r + 1 + n) l)
+removed_of l r n h =
+    take-paste l r (drop (r + 1) l) n (omega arith) (omega (arith, length-drop (r + 1) l))
+    ∙ sym (rw (take-take r (r + 1 + n) l (omega arith), ← add-one r, drop-take (r + 1) n l) refl)
 
-pub removing_start : (l : List ℕ) (m r : ℕ) → length l ≡ 64 → r < m → Removing l m r l r
-removing_start l m r w h = record { wide = w; inside = h; whole = rw (add-one r, take-take r m l (omega arith)) refl }
-
-pub removing_step : (l₀ l : List ℕ) (m r j : ℕ) → m ≤ 64 → j + 1 < m → Removing l₀ m r l j → Removing l₀ m r (set l j (get_or l (j + 1) 0)) (j + 1)
-removing_step l₀ l m r j s h v = record {
-  wide = length-set l j x ∙ v.wide;
-  inside = h;
-  whole = first ∙ append_assoc (take j l) (x ∷ []) (drop (j + 1 + 1) (take m l)) ∙ ap (λ (z : List ℕ). take j l ++ z) (sym next) ∙ v.whole;
-}
-  where
-    x : ℕ
-    x = get_or l (j + 1) 0
-
-    next : drop (j + 1) (take m l) ≡ x ∷ drop (j + 1 + 1) (take m l)
-    next = rw (add-one (j + 1)) (slice-cons (j + 1) m l 0 h (omega (arith, v.wide)))
-
-    first : take (j + 1) (set l j x) ++ drop (j + 1 + 1) (take m (set l j x)) ≡ (take j l ++ (x ∷ [])) ++ drop (j + 1 + 1) (take m l)
-    first = rw (take-set-lt m l j x (omega arith), drop-set-lt (j + 1 + 1) (take m l) j x (omega arith), push l j x (omega (arith, v.wide))) refl
-
-pub removing_end : (l₀ l : List ℕ) (m r j : ℕ) → m ≤ j + 1 → Removing l₀ m r l j → take (m - 1) l ≡ without r (take m l₀)
-removing_end l₀ l m r j h v =
-    let a : j + 1 ≡ m = omega (arith, v.inside) in
-    let b : m - 1 ≡ j = omega (arith, v.inside) in
-    let e : drop (j + 1) (take m l) ≡ [] = rw a (slice_empty m l) in
-    rw b (sym (append-nil (take j l)) ∙ rw (← e) v.whole)
+pub removed : (l : List ℕ) (m r : ℕ) → r < m → m ≤ length l → take (m - 1) (paste l r (drop (r + 1) l) (m - (r + 1))) ≡ without r (take m l)
+removed l m r h w =
+    let q : r + (m - (r + 1)) ≡ m - 1 = omega arith in
+    let k : r + 1 + (m - (r + 1)) ≡ m = omega arith in
+    ap (λ (z : ℕ). take z (paste l r (drop (r + 1) l) (m - (r + 1)))) (sym q) ∙ removed_of l r (m - (r + 1)) (omega arith) ∙ ap (λ (z : ℕ). without r (take z l)) k
 
 -- one entry offered: k-th of the predictor, p in the palette by now, of total
 pub record Offered (tol e total p p' k : ℕ) (left₀ left pal₀ pal : List ℕ) (fl₀ fl : List Bool) : Type 0 where
@@ -82,7 +64,7 @@ module _ {tol np total : ℕ} {es left₀ : List ℕ} {k p : ℕ} {left pal : Li
   len few = length-take-le (total - p) left (omega (arith, v.wide_left))
 
   -- one entry on
-  pub choosing_turn : {p' : ℕ} {left' pal' : List ℕ} {fl' : List Bool} → total ≤ 64 → k < np → np ≤ 128 → length es ≡ 128 → Offered tol (get_or es k 0) total p p' k left left' pal pal' fl fl' → Choosing tol np total es left₀ (k + 1) p' left' pal' fl'
+  pub choosing_turn : {p' : ℕ} {left' pal' : List ℕ} {fl' : List Bool} → total ≤ 64 → k < np → np ≤ 128 → np ≤ length es → Offered tol (get_or es k 0) total p p' k left left' pal pal' fl fl' → Choosing tol np total es left₀ (k + 1) p' left' pal' fl'
   choosing_turn {p'} {left'} {pal'} {fl'} few more long wide o =
       ⊎_elim
       (λ (h : hit_of tol entry (take (total - p) left) < total - p).
@@ -123,7 +105,7 @@ module _ {tol np total : ℕ} {es left₀ : List ℕ} {k p : ℕ} {left pal : Li
       cons = rw (add-one k) (slice-cons k np es 0 more (omega arith))
 
   -- all entries offered, and the rest behind them
-  pub choosing_end : {pal' : List ℕ} → k ≡ np → total ≤ 64 → np ≤ 128 → length es ≡ 128 → length left₀ ≡ 64
+  pub choosing_end : {pal' : List ℕ} → k ≡ np → total ≤ 64 → np ≤ 128 → np ≤ length es → length left₀ ≡ 64
       → (take total pal' ≡ take p pal ++ take (total - p) left) × (drop total pal' ≡ drop total pal)
       → ◌≡◌ {A = Painting} (record { size = total; reused = p; palette = pal'; flags = fl }) (painting_of (chosen tol (take np es) (take total left₀)))
   unfolding painting_of chosen trues
@@ -138,9 +120,3 @@ module _ {tol np total : ℕ} {es left₀ : List ℕ} {k p : ℕ} {left pal : Li
       let x : pal' ≡ padded 64 0 w.palette = padded-is 0 pal' w.palette total 64 a (r.1 ∙ v.behind) m in
       let y : fl ≡ padded 128 false w.flags = padded-is false fl w.flags np 128 b v.off n in
       (λ i. record { size = m i; reused = c i; palette = x i; flags = y i })
-
--- the rest laid behind, one more of it
-pub resting_step : (pal₀ pal left : List ℕ) (p m j : ℕ) → length pal ≡ 64 → m ≤ length left → p + j < 64 → j < m → take (p + j) pal ++ slice j m left ≡ pal₀ → take (p + (j + 1)) (set pal (p + j) (get_or left j 0)) ++ slice (j + 1) m left ≡ pal₀
-resting_step pal₀ pal left p m j w l s h e =
-    let q : p + (j + 1) ≡ p + j + 1 = omega arith in
-    rw (q, push pal (p + j) (get_or left j 0) (omega arith), append_assoc, add-one j) (rw (slice-cons j m left 0 h l) at e)

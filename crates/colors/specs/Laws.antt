@@ -1,15 +1,15 @@
 -- The laws of the colour counter: a look-up answers the key's place among the numbers met.
-use Rattle.std.specs.Prelude.{◌≡◌, ℕ, zero, suc, ◌+◌, ◌-◌, ◌*◌, ◌/◌, ◌%◌, ◌^◌, ◌<◌, ◌≤◌, Bool, true, false, ◌&&◌, ◌⊎◌, List, [], ◌∷◌, ◌++◌, length, drop, replicate, ◌≢◌, nat_le, slice_index, slice_index_or, slice_set}
+use Rattle.std.specs.Prelude.{◌≡◌, ℕ, zero, suc, ◌+◌, ◌-◌, ◌%◌, ◌^◌, ◌<◌, ◌≤◌, Bool, true, false, ◌&&◌, ◌⊎◌, List, [], ◌∷◌, ◌++◌, length, drop, ◌≢◌, nat_le, slice_index, slice_index_or, slice_set}
 use Rattle.std.proofs.Math.Logic.{inl, inr, ⊎_elim}
 use Rattle.std.proofs.Math.Path.{refl, ap}
 use Rattle.std.proofs.Common.{sym, ◌∙◌, subst, add-one, drop_of_length-le, length-set, length-append, get_or-set_same, get_or-set_other, drop-cons}
 use native.Mathlib.Omega.{arith}
 use borrow.Author.Tests.{eq-eqb, ne_eqb, lt-ltb, le-ltb, le-leb, lt-leb}
-use Rattle.std.proofs.lemmas.List.{length-replicate, get_or-replicate}
+use Rattle.std.proofs.lemmas.List.{get_or-replicate}
 use Rattle.base.specs.Pick.{pick, lt_or_le, eq_or_ne, true_false}
 use Rattle.base.specs.Tests.{pick_test}
 use Rattle.colors.specs.Place.{place_of, place_le, place_kept, place_new, place_other, seen}
-use Rattle.colors.specs.Table.{Table, tab, hash_of, slot_at, stops, probe, slot_of, answer_of, after_of, generation_of, stamps_of, stamped, none_above, Path, Holds}
+use Rattle.colors.specs.Table.{Table, tab, hash_of, slot_at, probe, slot_of, answer_of, after_of, generation_of, stamps_of, stamped, none_above, Path, Holds}
 
 pub hash_lt : (key : ℕ) → hash_of key < 256
 unfolding hash_of

@@ -1,5 +1,5 @@
 -- The colour counter: a table of 256 slots with linear probing, each marked by the generation that wrote it. Definitions only.
-use Rattle.std.specs.Prelude.{◌≡◌, ℕ, zero, suc, ◌+◌, ◌*◌, ◌/◌, ◌%◌, ◌^◌, ◌<◌, ◌≤◌, Bool, true, false, List, [], ◌∷◌, length, replicate, ◌==◌, nat_lt, slice_index, slice_index_or, slice_set}
+use Rattle.std.specs.Prelude.{◌≡◌, ℕ, zero, suc, ◌+◌, ◌*◌, ◌/◌, ◌%◌, ◌^◌, ◌<◌, Bool, true, false, List, [], ◌∷◌, length, replicate, ◌==◌, nat_lt, slice_index, slice_index_or, slice_set}
 use Rattle.base.specs.Pick.{pick}
 use Rattle.colors.specs.Place.{place_of}
 use Rattle.colors.specs.declared.ColorIndex.{ColorIndex}

@@ -1,5 +1,5 @@
 -- Bounds on places and cells.
-use Rattle.std.specs.Prelude.{◌≡◌, ℕ, zero, suc, ◌*◌, ◌≤◌, ◌<◌}
+use Rattle.std.specs.Prelude.{ℕ, zero, suc, ◌*◌, ◌≤◌, ◌<◌}
 use Rattle.std.proofs.Common.{mul-le-mul, arith}
 
 -- a product of two numbers of 16 bits

@@ -7,27 +7,35 @@ ghost use Rattle.model.specs.Domain.{format_in, depth_in, qp_in, config_in, size
 use model::{Color, PaletteConfig, PalettePredictor, SourceBlock};
 
 // Whether component count and format agree.
+#[tactic(auto, unfolding(model::specs::Domain::format_in))]
 fn format_in(components: usize, format: u8) -> bool
     ensures { result ≡ format_in components format }
 {
-    ((format == 0) & (components == 1)) | ((1 <= format) & (format <= 3) & (components == 3))
+    match format {
+        0 => components == 1,
+        1..=3 => components == 3,
+        _ => false,
+    }
 }
 
 // Whether a depth is 8, 10 or 12.
+#[tactic(auto, unfolding(model::specs::Domain::depth_in))]
 pub fn depth_in(d: u8) -> bool
     ensures { result ≡ depth_in d }
 {
-    (d == 8) | (d == 10) | (d == 12)
+    matches!(d, 8 | 10 | 12)
 }
 
 // Whether a QP is from -128 to 75.
+#[tactic(auto, unfolding(model::specs::Domain::qp_in))]
 fn qp_in(q: i32) -> bool
     ensures { result ≡ qp_in q }
 {
-    (-128 <= q) & (q <= 75)
+    matches!(q, -128..=75)
 }
 
 // The test for refusal 1.
+#[tactic(auto, unfolding(model::specs::Domain::config_in))]
 pub fn config_in(c: PaletteConfig) -> bool
     ensures { result ≡ config_in c }
 {
@@ -40,30 +48,34 @@ pub fn config_in(c: PaletteConfig) -> bool
 }
 
 // Whether a block's size is in the domain.
+#[tactic(auto, unfolding(model::specs::Domain::size_in))]
 pub fn size_in(size: usize) -> bool
     ensures { result ≡ size_in size }
 {
-    (1 <= size) & (size <= 32)
+    matches!(size, 1..=32)
 }
 
 // Whether a number of luma samples is even where the format asks it.
+#[tactic(auto, unfolding(model::specs::Domain::even_in))]
 pub fn even_in(format: u8, x: usize) -> bool
     ensures { result ≡ even_in format x }
 {
-    if (format == 1) | (format == 2) {
-        return x % 2 == 0;
+    match format {
+        1 | 2 => x % 2 == 0,
+        _ => true,
     }
-    true
 }
 
 // Whether a picture side is in the domain.
+#[tactic(auto, unfolding(model::specs::Domain::side_in))]
 fn side_in(w: usize) -> bool
     ensures { result ≡ side_in w }
 {
-    (1 <= w) & (w <= 65535)
+    matches!(w, 1..=65535)
 }
 
 // The test for refusal 2.
+#[tactic(auto, unfolding(model::specs::Domain::source_in))]
 pub fn source_in(format: u8, g: SourceBlock) -> bool
     ensures { result ≡ source_in format g }
 {
@@ -79,21 +91,14 @@ pub fn source_in(format: u8, g: SourceBlock) -> bool
         & even_in(format, g.y0)
 }
 
-// The samples of a plane.
-fn area(w: usize, h: usize) -> usize
-    requires { (w ≤ 65535) × (h ≤ 65535) }
-    ensures { result ≡ w * h }
-{
-    w * h
-}
-
 // The test for refusal 3.
+#[tactic(auto, unfolding(model::specs::Domain::planes_in))]
 pub fn planes_in(format: u8, g: SourceBlock, y: usize, b: usize, r: usize) -> bool
     requires { (g.yw ≤ 65535) × (g.yh ≤ 65535) × (g.cw ≤ 65535) × (g.chh ≤ 65535) }
     ensures { result ≡ planes_in format g y b r }
 {
-    let luma = area(g.yw, g.yh);
-    let chroma = area(g.cw, g.chh);
+    let luma = g.yw * g.yh;
+    let chroma = g.cw * g.chh;
     (luma <= y) & ((format == 0) | ((chroma <= b) & (chroma <= r)))
 }
 
@@ -103,22 +108,21 @@ pub fn most_in(depth: u8) -> u16
 {
     if depth < 16 {
         let p: u32 = 1 << depth;
-        return (p - 1) as u16;
+        (p - 1) as u16
+    } else {
+        u16::MAX
     }
-    65535
 }
 
 // The same of a chroma component, 0 in format 0.
 fn most_chroma(format: u8, depth: u8) -> u16
     ensures { result ≡ min 65535 (most_chroma format depth) }
 {
-    if format == 0 {
-        return 0;
-    }
-    most_in(depth)
+    if format == 0 { 0 } else { most_in(depth) }
 }
 
 // Whether a colour fits its depths.
+#[tactic(auto, unfolding(model::specs::Domain::color_in), using(model::specs::DomainLaws::leb_capped))]
 pub fn color_in(format: u8, luma: u8, chroma: u8, c: Color) -> bool
     ensures { result ≡ color_in format luma chroma c }
 {
@@ -128,6 +132,7 @@ pub fn color_in(format: u8, luma: u8, chroma: u8, c: Color) -> bool
 }
 
 // The test for a predictor's part of refusal 5.
+#[tactic(auto, unfolding(model::specs::Domain::predictor_in))]
 pub fn predictor_in(format: u8, luma: u8, chroma: u8, p: PalettePredictor) -> bool
     ensures { result ≡ predictor_in format luma chroma p }
 {
@@ -135,11 +140,8 @@ pub fn predictor_in(format: u8, luma: u8, chroma: u8, p: PalettePredictor) -> bo
         return false;
     }
     let mut ok = true;
-    let mut i: usize = 0;
-    while i < p.size {
-        let c = p.entries[i];
-        ok = ok & color_in(format, luma, chroma, c);
-        i += 1;
+    for c in &p.entries[..p.size] {
+        ok &= color_in(format, luma, chroma, *c);
     }
     ok
 }

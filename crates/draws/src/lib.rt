@@ -4,82 +4,59 @@
 ghost use Rattle.std.specs.Prelude.{◌≡◌, ◌≤◌, ◌<◌};
 ghost use Rattle.std.specs.Float.{binary32};
 ghost use Rattle.std.specs.Float.Ieee.{add};
-ghost use Rattle.paths.specs.Plan.{tab};
 ghost use Rattle.relax.specs.Jumps.{length_from, first_stop, Skips, halted, Within, drawn};
+ghost use Rattle.relax.specs.Table.{table_of};
 
-use relax::{length_bits, relax};
+use measure::Lengths;
+use relax::{Paths, length_bits};
+use sums::RunSums;
 
-fn wide(x: u16) -> usize
-    ensures { result ≡ x }
-{
-    x as usize
+// Where index runs start: at p, after a run of kind k, of n cells, with what they cost but for their length, and their row of the tables of sums.
+#[derive(Clone, Copy)]
+pub struct Start {
+    pub n: usize,
+    pub p: usize,
+    pub k: bool,
+    pub head: f32,
+    pub row: usize,
 }
 
 // Where an index run from p may stop first.
-fn first_stop(above_len: &[u16; 1026], next: &[u16; 1026], p: usize) -> usize
+fn first_stop(lengths: &Lengths, p: usize) -> usize
     requires { p < 1024 }
-    ensures { result ≡ first_stop above_len.now next.now p }
+    ensures { result ≡ first_stop lengths.now.above lengths.now.next p }
 {
-    let len = above_len[p + 1];
-    if len == 0 {
-        return wide(next[p + 1]);
+    if lengths.above[p + 1] == 0 {
+        usize::from(lengths.next[p + 1])
+    } else {
+        p + 1
     }
-    p + 1
 }
 
-// The early stops from q on, below `end`: each is one offer.
-fn stops(
-    cost: &mut [f32; 2050],
-    pos: &mut [u16; 2050],
-    st: &mut [bool; 2050],
-    next: &[u16; 1026],
-    short: &[f32; 48],
-    full: &[f32; 48],
-    row: usize,
-    head: f32,
-    n: usize,
-    p: usize,
-    k: bool,
-    first: usize,
-    end: usize,
-)
-    requires { (row < 4) × (p < first) × (end ≤ n) × (n ≤ 1024) × Skips next.now end }
-    ensures { tab cost.new pos.new st.new
-        ≡ halted end next.now end (λ q. add binary32 head (length_from short.now full.now row n p q)) p k first (tab cost.old pos.old st.old) }
+// The early stops from `first` on, below `end`: each is one offer.
+// Stays a while: each stop is found from the one before.
+fn stops(paths: &mut Paths, next: &[u16; 1026], sums: &RunSums, s: Start, first: usize, end: usize)
+    requires { (s.row < 4) × (s.p < first) × (end ≤ s.n) × (s.n ≤ 1024) × Skips next.now end }
+    ensures { table_of paths.new
+        ≡ halted end next.now end (λ q. add binary32 s.head (length_from sums.now.short sums.now.full s.row s.n s.p q)) s.p s.k first (table_of paths.old) }
 {
     let mut q = first;
     while q < end {
-        let c = head + length_bits(short, full, row, n, p, q);
-        relax(cost, pos, st, q * 2, c, p, k);
-        q = wide(next[q + 1]);
+        let c = s.head + length_bits(sums, s.row, s.n, s.p, q);
+        paths.relax(q * 2, c, s.p, s.k);
+        q = usize::from(next[q + 1]);
     }
 }
 
 // The index runs from p: the early stops, and the whole length.
-pub fn draw(
-    cost: &mut [f32; 2050],
-    pos: &mut [u16; 2050],
-    st: &mut [bool; 2050],
-    index_len: &[u16; 1026],
-    above_len: &[u16; 1026],
-    next: &[u16; 1026],
-    short: &[f32; 48],
-    full: &[f32; 48],
-    row: usize,
-    head: f32,
-    n: usize,
-    p: usize,
-    k: bool,
-)
-    requires { (row < 4) × (n ≤ 1024) × Within index_len.now above_len.now next.now n p }
-    ensures { tab cost.new pos.new st.new
-        ≡ drawn index_len.now above_len.now next.now (λ q. add binary32 head (length_from short.now full.now row n p q)) p k (tab cost.old pos.old st.old) }
+pub fn draw(paths: &mut Paths, lengths: &Lengths, sums: &RunSums, s: Start)
+    requires { (s.row < 4) × (s.n ≤ 1024) × Within lengths.now.index lengths.now.above lengths.now.next s.n s.p }
+    ensures { table_of paths.new
+        ≡ drawn lengths.now.index lengths.now.above lengths.now.next (λ q. add binary32 s.head (length_from sums.now.short sums.now.full s.row s.n s.p q)) s.p s.k (table_of paths.old) }
 {
-    let end = p + wide(index_len[p]);
-    let first = first_stop(above_len, next, p);
-    stops(
-        cost, pos, st, next, short, full, row, head, n, p, k, first, end,
-    );
-    let c = head + length_bits(short, full, row, n, p, end);
-    relax(cost, pos, st, end * 2, c, p, k);
+    let end = s.p + usize::from(lengths.index[s.p]);
+    let first = first_stop(lengths, s.p);
+    stops(paths, &lengths.next, sums, s, first, end);
+    let c = s.head + length_bits(sums, s.row, s.n, s.p, end);
+    paths.relax(end * 2, c, s.p, s.k);
 }

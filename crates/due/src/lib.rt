@@ -12,13 +12,11 @@ pub fn chroma_depth(format: u8, depth: u8) -> u32
     requires { depth ≤ 16 }
     ensures { (result ≡ pick (eqb format 0) 0 depth) × (result ≤ 16) }
 {
-    if format == 0 {
-        return 0;
-    }
-    depth as u32
+    if format == 0 { 0 } else { u32::from(depth) }
 }
 
 // Whether component k has a level at cell i: chroma where a chroma sample stands.
+#[tactic(auto, unfolding(crate::specs::Due::due_at, syntax::specs::Block::chroma_due))]
 pub fn due_at(k: u8, format: u8, size: usize, turned: bool, i: usize) -> bool
     requires { 1 ≤ size }
     ensures { result ≡ due_at format size turned k i }
@@ -26,22 +24,17 @@ pub fn due_at(k: u8, format: u8, size: usize, turned: bool, i: usize) -> bool
     if k == 0 {
         return true;
     }
-    if format == 0 {
-        return false;
-    }
-    if format == 1 {
-        let p = scan_pos(i, size);
-        if p.col % 2 == 0 {
-            return p.row % 2 == 0;
+    match format {
+        0 => false,
+        1 => {
+            let p = scan_pos(i, size);
+            p.col % 2 == 0 && p.row % 2 == 0
         }
-        return false;
-    }
-    if format == 2 {
-        let p = scan_pos(i, size);
-        if turned {
-            return p.row % 2 == 0;
+        2 => {
+            let p = scan_pos(i, size);
+            let along = if turned { p.row } else { p.col };
+            along % 2 == 0
         }
-        return p.col % 2 == 0;
+        _ => true,
     }
-    true
 }

@@ -7,30 +7,17 @@ ghost use Rattle.entries.specs.Entries.{packed_of};
 
 use model::Color;
 
-// A sample as a wider number.
-fn wide(x: u16) -> u64
-    ensures { result ≡ x }
-{
-    x as u64
-}
-
 // Three samples as one number.
 pub fn pack(y: u16, u: u16, v: u16) -> u64
     ensures { result ≡ packed y u v }
 {
-    wide(y) + 65536 * wide(u) + 4294967296 * wide(v)
+    u64::from(y) + 65536 * u64::from(u) + 4294967296 * u64::from(v)
 }
 
 // The entries of a palette as numbers.
+#[tactic(auto, unfolding(crate::specs::Entries::packed_of))]
 pub fn pack_palette(palette: [Color; 64]) -> [u64; 64]
     ensures { (result ≡ map packed_of palette) × (length result ≡ 64) }
 {
-    let mut out: [u64; 64] = [0; 64];
-    let mut i: usize = 0;
-    while i < 64 {
-        let c = palette[i];
-        out[i] = pack(c.y, c.cb, c.cr);
-        i += 1;
-    }
-    out
+    palette.map(|c| pack(c.y, c.cb, c.cr))
 }

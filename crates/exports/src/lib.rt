@@ -7,22 +7,16 @@ ghost use Rattle.exports.specs.Numbers.{scan_pos, scan_pos_inv, place_above, ste
 
 use quant::{dequant_escape, distance, quantize_escape, step, tolerance};
 use scan::{place_above, scan_pos, scan_pos_inv};
-use wrap::wrapping_mul;
 
-const NONE: u64 = 18446744073709551615;
+const NONE: u64 = u64::MAX;
 
 // The cell at scan place i of a block of side size: row × 65536 + column.
+#[tactic(auto, unfolding(crate::specs::Numbers::scan_pos))]
 #[unsafe(no_mangle)]
 pub extern "C" fn velomitra_scan_pos(i: usize, size: usize) -> u64
     ensures { result ≡ scan_pos i size }
 {
-    if size < 1 {
-        return NONE;
-    }
-    if 32 < size {
-        return NONE;
-    }
-    if 1024 <= i {
+    if size < 1 || 32 < size || 1024 <= i {
         return NONE;
     }
     let p = scan_pos(i, size);
@@ -30,40 +24,31 @@ pub extern "C" fn velomitra_scan_pos(i: usize, size: usize) -> u64
 }
 
 // The scan place of a cell of a block of side size.
+#[tactic(auto, unfolding(crate::specs::Numbers::scan_pos_inv))]
 #[unsafe(no_mangle)]
 pub extern "C" fn velomitra_scan_pos_inv(col: usize, row: usize, size: usize) -> u64
     ensures { result ≡ scan_pos_inv col row size }
 {
-    if 32 < size {
-        return NONE;
-    }
-    if size <= col {
-        return NONE;
-    }
-    if size <= row {
+    if 32 < size || size <= col || size <= row {
         return NONE;
     }
     scan_pos_inv(col, row, size) as u64
 }
 
 // The scan place of the cell above scan place i of a block of side size.
+#[tactic(auto, unfolding(crate::specs::Numbers::place_above))]
 #[unsafe(no_mangle)]
 pub extern "C" fn velomitra_place_above(i: usize, size: usize) -> u64
     ensures { result ≡ place_above i size }
 {
-    if size < 1 {
-        return NONE;
-    }
-    if i < size {
-        return NONE;
-    }
-    if 1024 <= i {
+    if size < 1 || i < size || 1024 <= i {
         return NONE;
     }
     place_above(i, size) as u64
 }
 
 // The step of a QP.
+#[tactic(auto, unfolding(crate::specs::Numbers::step_out))]
 #[unsafe(no_mangle)]
 pub extern "C" fn velomitra_step(qp: i32) -> u64
     ensures { result ≡ step_out qp }
@@ -91,6 +76,7 @@ pub extern "C" fn velomitra_distance(a: u64, b: u64) -> u64
 }
 
 // The value of an escape level.
+#[tactic(auto, unfolding(crate::specs::Numbers::dequant_out))]
 #[unsafe(no_mangle)]
 pub extern "C" fn velomitra_dequant_escape(lossless: bool, step: u64, most: u64, level: i32) -> u64
     ensures { result ≡ dequant_out lossless step most level }
@@ -102,17 +88,12 @@ pub extern "C" fn velomitra_dequant_escape(lossless: bool, step: u64, most: u64,
 }
 
 // The escape level of a value.
+#[tactic(auto, unfolding(crate::specs::Numbers::quantize_out))]
 #[unsafe(no_mangle)]
 pub extern "C" fn velomitra_quantize_escape(lossless: bool, step: u64, most: u64, v: u64) -> u64
     ensures { result ≡ quantize_out lossless step most v }
 {
-    if step < 1 {
-        return NONE;
-    }
-    if 294912 < step {
-        return NONE;
-    }
-    if 65535 < v {
+    if step < 1 || 294912 < step || 65535 < v {
         return NONE;
     }
     quantize_escape(lossless, step, most, v)
@@ -123,5 +104,5 @@ pub extern "C" fn velomitra_quantize_escape(lossless: bool, step: u64, most: u64
 pub extern "C" fn velomitra_wrapping_mul(a: u64, b: u64) -> u64
     ensures { result ≡ (a * b) % 2 ^ 64 }
 {
-    wrapping_mul(a, b)
+    a.wrapping_mul(b)
 }

@@ -7,6 +7,7 @@ ghost use Rattle.exports_analysis.specs.Calls.{analyze_out, analyze_with_out};
 
 use flat::{config_of, source_of};
 use flatanalyse::{analyze_cells, tolerance_of};
+use refusal::code;
 
 // The block with a palette for its samples at a tolerance lent.
 #[unsafe(no_mangle)]
@@ -29,12 +30,11 @@ pub extern "C" fn velomitra_analyze_with(
 {
     let c = config_of(config);
     let g = source_of(source);
-    let mut cells: [u64; 1024] = [0; 1024];
-    let r = source::source_refusal(luma, cb, cr, c, g, &mut cells);
-    if r != 0 {
-        return r;
+    let mut cells = [0; 1024];
+    if let Err(refusal) = source::fetch_block(luma, cb, cr, c, g, &mut cells) {
+        return u8::from(refusal);
     }
-    analyze_cells(&cells, c, g.size, predictor, tol, keys, entry, stamp, block)
+    code(analyze_cells(&cells, c, g.size, predictor, tol, keys, entry, stamp, block))
 }
 
 // The block with a palette for its samples at the luma QP's tolerance.

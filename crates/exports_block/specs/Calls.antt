@@ -4,8 +4,7 @@ use Rattle.assigning.specs.Assigning.{assign_of}
 use Rattle.calls.specs.Calls.{answered}
 use Rattle.flat.specs.Flat.{block_of, config_of, source_of}
 use Rattle.flatassign.specs.Answers.{assign_laid}
-use Rattle.sse.specs.declared.Figure.{Figure}
-use Rattle.sse.specs.Sse.{sse_of}
+use Rattle.sse.specs.Sse.{Figure, sse_of}
 
 unfoldable pub assign_out : List ℕ → List ℕ → List ℕ → List ℤ → List ℕ → Bool → List ℕ → ℕ × List ℕ
 assign_out luma cb cr config source transpose block = assign_laid (assign_of luma cb cr (config_of config) (source_of source) transpose (block_of block)) block

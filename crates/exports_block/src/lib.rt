@@ -1,7 +1,7 @@
 // The calls on whole blocks for other languages, nothing required. Blocks, configurations and geometries are lists of numbers, as crate flat lays them out. Each answers a refusal's number and leaves the memory lent to it as it was, or answers 0.
 #![tactic(auto)]
 
-ghost use Rattle.std.specs.Prelude.{◌≡◌, set};
+ghost use Rattle.std.specs.Prelude.{◌≡◌};
 ghost use Rattle.exports_block.specs.Calls.{assign_out, sse_out};
 
 use assigning::assign_indices;
@@ -27,23 +27,14 @@ pub extern "C" fn velomitra_assign_indices(
     let g = source_of(source);
     let cu = block_of(block);
     if 4432 <= block.len() {
-        return assign_list(luma, cb, cr, c, g, transpose, cu, block);
+        return refusal::code(assign_list(luma, cb, cr, c, g, transpose, cu, block));
     }
-    let done = assign_indices(luma, cb, cr, c, g, transpose, cu);
-    if done.refusal == 0 {
-        let after = done.cu;
-        lay_block(after, block);
-        return 0;
-    }
-    done.refusal
-}
-
-// A number at the first place, where there is one.
-fn put_figure(list: &mut [u64], x: u64)
-    ensures { list.new ≡ set list.old 0 x }
-{
-    if 0 < list.len() {
-        list[0] = x;
+    match assign_indices(luma, cb, cr, c, g, transpose, cu) {
+        Ok(after) => {
+            lay_block(after, block);
+            0
+        }
+        Err(refusal) => u8::from(refusal),
     }
 }
 
@@ -63,10 +54,11 @@ pub extern "C" fn velomitra_palette_sse(
     let c = config_of(config);
     let g = source_of(source);
     let cu = block_of(block);
-    let done = palette_sse(luma, cb, cr, c, g, cu);
-    if done.refusal == 0 {
-        put_figure(figure, done.sse);
-        return 0;
+    match palette_sse(luma, cb, cr, c, g, cu) {
+        Ok(sse) => {
+            laying::store(figure, 0, sse);
+            0
+        }
+        Err(refusal) => u8::from(refusal),
     }
-    done.refusal
 }

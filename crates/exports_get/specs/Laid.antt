@@ -5,7 +5,6 @@ use Rattle.base.specs.Answer.{Answer, Value, Refused, onward}
 use Rattle.h265.specs.Strings.{bit}
 use Rattle.h265.specs.Parse.{bin_at, bits_at, tb_at, egk_at, held, count_at, run_at}
 use Rattle.h265.specs.Reuse.{reuse_at}
-use Rattle.bins.specs.As.{as_number}
 use Rattle.getreuse.specs.Read.{read_of}
 
 -- an answer as three numbers
@@ -36,7 +35,7 @@ run_out longest above sent l at = pick (ltb 1024 longest) [] (three (run_at long
 
 -- the number of entries reused, of `count`
 unfoldable pub reuse_out : ℕ → ℕ → List ℕ → ℕ → List ℕ
-reuse_out limit count l at = pick (ltb 128 count) [] (three (as_number (read_of (reuse_at limit count l at)).got))
+reuse_out limit count l at = pick (ltb 128 count) [] (three (read_of (reuse_at limit count l at)).got)
 
 -- the flags, which came in as `old`
 unfoldable pub flags_out : ℕ → List ℕ → ℕ → List Bool → List Bool

@@ -1,7 +1,7 @@
 -- What a call answers and leaves where its block holds together.
 use Rattle.std.specs.Prelude.{◌≡◌, true, false, List, ℕ, ◌*◌, ◌/◌, ◌≤◌, ◌<◌, length, set}
 use Rattle.std.proofs.Math.Path.{refl}
-use Rattle.std.proofs.Common.{sym, ◌∙◌}
+use Rattle.std.proofs.Common.{◌∙◌}
 use Rattle.std.specs.Float.{binary32}
 use Rattle.std.specs.Float.Ieee.{of_bits}
 use Rattle.std.proofs.lemmas.List.Edits.{sets}
@@ -13,8 +13,7 @@ use Rattle.model.specs.declared.PaletteCu.{PaletteCu}
 use Rattle.model.specs.declared.PaletteRun.{PaletteRun}
 use Rattle.model.specs.Whole.{max_index, block_size_in, holds}
 use Rattle.paths.specs.Plan.{job, price_of, planned}
-use Rattle.plan.specs.declared.Plan.{Plan}
-use Rattle.plan.specs.declared.Planned.TheVariants.{Nothing, Runs}
+use Rattle.plan.specs.Planned.{Nothing, Runs}
 use Rattle.plan.specs.Answer.{refused_with, plan_of}
 use Rattle.plan.specs.AnswerLaws.{block_none, block_short, block_runs, refused_6, block_is}
 use Rattle.rates.specs.declared.RateModel.{RateModel}

@@ -11,17 +11,16 @@ use putgolomb::put_egk;
 use putreuse::put_reuse;
 use putrun::put_run;
 
+// The last place from which bins are laid.
 const FAR: usize = 4611686018427387904;
 
 // The n low bits of a value.
 #[unsafe(no_mangle)]
+#[tactic(auto, unfolding(crate::specs::Bins::bits_out), using(base::specs::Laid::laid_none))]
 pub extern "C" fn velomitra_put_bits(list: &mut [u8], at: usize, value: u32, n: u32) -> usize
     ensures { Laid list.old at (near at (bits_out n value)) result list.new }
 {
-    if FAR < at {
-        return at;
-    }
-    if 32 < n {
+    if FAR < at || 32 < n {
         return at;
     }
     put_bits(list, at, value, n)
@@ -29,16 +28,11 @@ pub extern "C" fn velomitra_put_bits(list: &mut [u8], at: usize, value: u32, n: 
 
 // Truncated binary over n values.
 #[unsafe(no_mangle)]
+#[tactic(auto, unfolding(crate::specs::Bins::tb_out), using(base::specs::Laid::laid_none))]
 pub extern "C" fn velomitra_put_tb(list: &mut [u8], at: usize, n: u32, v: u32) -> usize
     ensures { Laid list.old at (near at (tb_out n v)) result list.new }
 {
-    if FAR < at {
-        return at;
-    }
-    if 65536 < n {
-        return at;
-    }
-    if n <= v {
+    if FAR < at || 65536 < n || n <= v {
         return at;
     }
     put_tb(list, at, n, v)
@@ -46,16 +40,11 @@ pub extern "C" fn velomitra_put_tb(list: &mut [u8], at: usize, n: u32, v: u32) -
 
 // Exp-Golomb of an order.
 #[unsafe(no_mangle)]
+#[tactic(auto, unfolding(crate::specs::Bins::egk_out), using(base::specs::Laid::laid_none))]
 pub extern "C" fn velomitra_put_egk(list: &mut [u8], at: usize, order: u32, value: u32) -> usize
     ensures { Laid list.old at (near at (egk_out order value)) result list.new }
 {
-    if FAR < at {
-        return at;
-    }
-    if 13 < order {
-        return at;
-    }
-    if 65535 < value {
+    if FAR < at || 13 < order || 65535 < value {
         return at;
     }
     put_egk(list, at, order, value)
@@ -63,16 +52,11 @@ pub extern "C" fn velomitra_put_egk(list: &mut [u8], at: usize, order: u32, valu
 
 // The index count, less 1, where M is m.
 #[unsafe(no_mangle)]
+#[tactic(auto, unfolding(crate::specs::Bins::count_out), using(base::specs::Laid::laid_none))]
 pub extern "C" fn velomitra_put_count(list: &mut [u8], at: usize, m: u32, v: u32) -> usize
     ensures { Laid list.old at (near at (count_out m v)) result list.new }
 {
-    if FAR < at {
-        return at;
-    }
-    if 64 < m {
-        return at;
-    }
-    if 65535 < v {
+    if FAR < at || 64 < m || 65535 < v {
         return at;
     }
     put_count(list, at, m, v)
@@ -80,6 +64,7 @@ pub extern "C" fn velomitra_put_count(list: &mut [u8], at: usize, m: u32, v: u32
 
 // A run of `more` further cells of at most `longest`.
 #[unsafe(no_mangle)]
+#[tactic(auto, unfolding(crate::specs::Bins::run_out), using(base::specs::Laid::laid_none))]
 pub extern "C" fn velomitra_put_run(
     list: &mut [u8],
     at: usize,
@@ -90,34 +75,15 @@ pub extern "C" fn velomitra_put_run(
 ) -> usize
     ensures { Laid list.old at (near at (run_out longest above sent more)) result list.new }
 {
-    if FAR < at {
-        return at;
-    }
-    if 1024 < longest {
-        return at;
-    }
-    if longest < more {
+    if FAR < at || 1024 < longest || longest < more {
         return at;
     }
     put_run(list, at, longest, above, sent, more)
 }
 
-// Flags at the start of an array.
-fn gathered(flags: &[bool]) -> [bool; 128]
-    requires { length flags.now ≤ 128 }
-    ensures { take (length flags.now) result ≡ flags.now }
-{
-    let mut a = [false; 128];
-    let mut i = 0;
-    while i < flags.len() {
-        a[i] = flags[i];
-        i += 1;
-    }
-    a
-}
-
 // The reuse runs of all flags under a palette limit.
 #[unsafe(no_mangle)]
+#[tactic(auto, unfolding(crate::specs::Bins::reuse_out), using(base::specs::Laid::laid_none))]
 pub extern "C" fn velomitra_put_reuse(
     list: &mut [u8],
     at: usize,
@@ -126,14 +92,8 @@ pub extern "C" fn velomitra_put_reuse(
 ) -> usize
     ensures { Laid list.old at (near at (reuse_out limit flags.now)) result list.new }
 {
-    if FAR < at {
+    if FAR < at || 64 < limit || 128 < flags.len() {
         return at;
     }
-    if 64 < limit {
-        return at;
-    }
-    if 128 < flags.len() {
-        return at;
-    }
-    put_reuse(list, at, limit, gathered(flags), flags.len())
+    put_reuse(list, at, limit, flags)
 }

@@ -1,14 +1,13 @@
 -- The exported reader's answer from the entry point's.
-use Rattle.std.specs.Prelude.{◌≡◌, refl, Bool, List, ℕ, ◌/◌, length, take, set}
-use Rattle.std.proofs.Common.{ap, sym, ◌∙◌}
+use Rattle.std.specs.Prelude.{◌≡◌, Bool, List, ℕ, ◌/◌, length, take, set}
 use Rattle.std.proofs.lemmas.List.Edits.{sets}
 use borrow.Author.Tests.{ne_eqb}
 use Rattle.flat.specs.Flat.{predictor_of, flat_block}
 use Rattle.flatplan.specs.Flat.{flat_runs}
 use Rattle.model.specs.declared.PalettePredictor.{PalettePredictor}
 use Rattle.read.specs.Reading.{read_of}
-use Rattle.readblock.specs.declared.BlockRead.{BlockRead}
-use Rattle.exports_read.specs.Calls.{Memory, Lent, laid_read, read_laid, read_out}
+use Rattle.readblock.specs.Read.{BlockRead}
+use Rattle.exports_read.specs.Calls.{Memory, laid_read, read_laid, read_out}
 
 pub laid-is : {block runs count used : List ℕ} (done : BlockRead) (m : Memory) → block ≡ sets m.block 0 (flat_block done.cu) → runs ≡ sets m.runs 0 (flat_runs (take done.count done.runs)) → count ≡ set m.count 0 done.count → used ≡ set m.used 0 done.used → record { block = block; runs = runs; count = count; used = used } ≡ laid_read done m
 unfolding laid_read

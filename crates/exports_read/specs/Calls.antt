@@ -5,7 +5,7 @@ use Rattle.base.specs.Pick.{pick}
 use Rattle.flat.specs.Flat.{predictor_of, flat_block}
 use Rattle.flatplan.specs.Flat.{flat_runs}
 use Rattle.read.specs.Reading.{read_of}
-use Rattle.readblock.specs.declared.BlockRead.{BlockRead}
+use Rattle.readblock.specs.Read.{BlockRead}
 
 -- the memory for what is read: a block, a run list of four numbers a run, places for the number of runs and of bins
 pub record Memory : Type 0 where

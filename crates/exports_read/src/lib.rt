@@ -1,7 +1,8 @@
 // The reader for other languages, nothing required. A predictor and a block are lists of numbers, as crate flat lays them out; runs are such a list, as crate flatplan has them. Answers a refusal's number, with its place at the first place of a list, and leaves the other memory lent as it was; or answers 0, with the block and its runs from the start of their lists, the number of runs and of the bins used at the first places of theirs.
 #![tactic(auto)]
 
-ghost use Rattle.std.specs.Prelude.{◌≡◌};
+ghost use Rattle.std.specs.Prelude.{◌≡◌, Ok};
+ghost use Rattle.readblock.specs.Read.{as_read};
 ghost use Rattle.exports_read.specs.Calls.{Memory, Lent, laid_read, read_out};
 
 use flat::predictor_of;
@@ -12,21 +13,19 @@ use readblock::BlockRead;
 
 // A block, its runs, their number and that of the bins used.
 fn lay_read(
-    done: BlockRead,
+    read: BlockRead,
     block: &mut [u16],
     runs: &mut [u32],
     count: &mut [usize],
     used: &mut [usize],
 )
     ensures { record { block = block.exit.now; runs = runs.new; count = count.new; used = used.new }
-        ≡ laid_read done (record { block = block.entry.now; runs = runs.old; count = count.old; used = used.old }) }
+        ≡ laid_read (as_read (Ok read)) (record { block = block.entry.now; runs = runs.old; count = count.old; used = used.old }) }
 {
-    let cu = done.cu;
-    let made = done.runs;
-    lay_block(cu, block);
-    lay_runs(made, done.count, runs);
-    put_count(count, done.count);
-    put_count(used, done.used);
+    lay_block(read.cu, block);
+    lay_runs(read.runs, read.count, runs);
+    put_count(count, read.count);
+    put_count(used, read.used);
 }
 
 // The block and the runs at the start of a list of bins; the run list has room for a quarter of its numbers.
@@ -49,7 +48,7 @@ pub extern "C" fn velomitra_read_palette_cu(
         ≡ read_out size format luma chroma lossless predictor.now bins.now (record { memory = record { block = block.entry.now; runs = runs.old; count = count.old; used = used.old }; place = place.old }) }
 {
     let p = predictor_of(predictor);
-    let done = read_palette_cu(
+    match read_palette_cu(
         bins,
         size,
         format,
@@ -58,11 +57,14 @@ pub extern "C" fn velomitra_read_palette_cu(
         lossless,
         p,
         runs.len() / 4,
-    );
-    if done.refusal == 0 {
-        lay_read(done, block, runs, count, used);
-        return 0;
+    ) {
+        Ok(read) => {
+            lay_read(read, block, runs, count, used);
+            0
+        }
+        Err(refused) => {
+            put_count(place, refused.place);
+            u8::from(refused.refusal)
+        }
     }
-    put_count(place, done.place);
-    done.refusal
 }

@@ -8,6 +8,7 @@ use flat::{block_of, config_of, source_of};
 use flatready::block_ready;
 use flatrecon::reconstruct_list;
 use recon::reconstruct;
+use refusal::code;
 
 // The block on the planes, whose strides are ys and cs; or a refusal, and the planes as they were.
 #[unsafe(no_mangle)]
@@ -26,8 +27,8 @@ pub extern "C" fn velomitra_reconstruct(
     let c = config_of(config);
     let g = source_of(source);
     if block_ready(block) {
-        return reconstruct_list(luma, cb, cr, ys, cs, c, g, block);
+        code(reconstruct_list(luma, cb, cr, ys, cs, c, g, block))
+    } else {
+        code(reconstruct(luma, cb, cr, ys, cs, c, g, block_of(block)))
     }
-    let cu = block_of(block);
-    reconstruct(luma, cb, cr, ys, cs, c, g, cu)
 }

@@ -4,8 +4,8 @@ use Rattle.std.proofs.Common.{ap, sym, ◌∙◌, ne_eqb}
 use Rattle.std.proofs.lemmas.List.Edits.{sets}
 use Rattle.h265.specs.Strings.{bit}
 use Rattle.flat.specs.Flat.{flat_block}
-use Rattle.smoothblock.specs.declared.Smoothed.{Smoothed}
 use Rattle.exports_smooth.specs.Calls.{smooth_laid}
+use Rattle.smoothblock.specs.Block.{Smoothed}
 
 module _ (done : Smoothed) (list : List ℕ) (r : ℕ) where
   pub smooth_done : (left : List ℕ) → done.refusal ≡ 0 → r ≡ 2 * 0 + bit done.changed → left ≡ sets list 0 (flat_block done.cu) → (r, left) ≡ smooth_laid done list

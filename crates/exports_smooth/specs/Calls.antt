@@ -4,8 +4,8 @@ use Rattle.std.proofs.lemmas.List.Edits.{sets}
 use Rattle.base.specs.Pick.{pick}
 use Rattle.h265.specs.Strings.{bit}
 use Rattle.flat.specs.Flat.{block_of, config_of, source_of, flat_block}
-use Rattle.smoothblock.specs.declared.Smoothed.{Smoothed}
 use Rattle.smoothing.specs.Smoothing.{smooth_of}
+use Rattle.smoothblock.specs.Block.{Smoothed}
 
 -- the refusal's number twice, 1 more where a run was moved; the block, on a refusal as it was
 abbrev pub smooth_laid : Smoothed → List ℕ → ℕ × List ℕ

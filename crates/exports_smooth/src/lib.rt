@@ -9,17 +9,7 @@ use flat::{block_of, config_of, source_of};
 use layflat::lay_block;
 use smoothing::smooth_indices;
 
-// A refusal's number twice, and 1 more where a run was moved.
-fn told(refusal: u8, changed: bool) -> u16
-    ensures { result ≡ 2 * refusal + bit changed }
-{
-    if changed {
-        return 2 * (refusal as u16) + 1;
-    }
-    2 * (refusal as u16)
-}
-
-// The block with its index map smoothed, and whether a run was moved; or a refusal, and the block as it was.
+// The block with its index map smoothed, and whether a run was moved; or twice a refusal's number, and the block as it was.
 #[unsafe(no_mangle)]
 pub extern "C" fn velomitra_smooth_indices(
     luma: &[u16],
@@ -37,10 +27,11 @@ pub extern "C" fn velomitra_smooth_indices(
     let g = source_of(source);
     let cu = block_of(block);
     let done = smooth_indices(luma, cb, cr, c, g, lambda, bits_per_run, cu);
-    if done.refusal == 0 {
-        let after = done.cu;
-        lay_block(after, block);
-        return told(0, done.changed);
+    match done {
+        Ok(smoothed) => {
+            lay_block(smoothed.cu, block);
+            u16::from(smoothed.changed)
+        }
+        Err(refusal) => 2 * u16::from(u8::from(refusal)),
     }
-    told(done.refusal, done.changed)
 }

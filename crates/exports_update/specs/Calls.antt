@@ -3,8 +3,7 @@ use Rattle.std.specs.Prelude.{List, ℕ}
 use Rattle.std.proofs.lemmas.List.Edits.{sets}
 use Rattle.calls.specs.Calls.{answered}
 use Rattle.flat.specs.Flat.{block_of, predictor_of, flat_predictor}
-use Rattle.predictor.specs.declared.Updated.{Updated}
-use Rattle.predictor.specs.Update.{update_of}
+use Rattle.predictor.specs.Update.{Updated, update_of}
 
 abbrev pub update_laid : Updated → List ℕ → ℕ × List ℕ
 update_laid done list = answered done.refusal list (sets list 0 (flat_predictor done.predictor))

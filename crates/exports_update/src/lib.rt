@@ -14,15 +14,13 @@ use predictor::update;
 fn by_records(predictor: &mut [u16], block: &[u16], limit: usize) -> u8
     ensures { (result, predictor.new) ≡ update_out predictor.old block.now limit }
 {
-    let p = predictor_of(predictor);
-    let cu = block_of(block);
-    let done = update(p, cu, limit);
-    if done.refusal == 0 {
-        let after = done.predictor;
-        lay_predictor(after, predictor);
-        return 0;
+    match update(predictor_of(predictor), block_of(block), limit) {
+        Ok(after) => {
+            lay_predictor(after, predictor);
+            0
+        }
+        Err(refusal) => u8::from(refusal),
     }
-    done.refusal
 }
 
 // The predictor after a block. A limit that is refused is told apart, so that the records stay out of a call in order.

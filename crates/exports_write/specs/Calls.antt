@@ -3,7 +3,7 @@ use Rattle.std.specs.Prelude.{List, ℕ, eqb, length, set}
 use Rattle.base.specs.Pick.{pick}
 use Rattle.flat.specs.Flat.{block_of}
 use Rattle.flatplan.specs.Flat.{runs_of}
-use Rattle.write.specs.declared.Written.{Written}
+use Rattle.write.specs.Written.{Written}
 use Rattle.write.specs.Write.{write_of, list_after}
 
 -- the memory lent: a bin list, and a place for the number of bins

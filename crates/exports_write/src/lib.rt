@@ -6,37 +6,32 @@ ghost use Rattle.flat.specs.Flat.{block_of};
 ghost use Rattle.flatplan.specs.Flat.{runs_of};
 ghost use Rattle.write.specs.Lists.{Lists};
 ghost use Rattle.write.specs.Write.{write_of, list_after};
+ghost use Rattle.write.specs.Written.{as_written};
 ghost use Rattle.exports_write.specs.Calls.{Lent, write_out};
 
 use flat::block_of;
 use flatplan::{put_count, runs_of};
 use flatready::block_ready;
-use write::{Written, write_lists, write_palette_cu};
+use refusal::Refusal;
+use write::{write_lists, write_palette_cu};
 
 // Yes only where the block's list is whole and holds together and the run list has as many runs as are told.
 fn in_order(block: &[u16], runs: &[u32], count: usize) -> bool
     ensures { result ≡ true → Lists block.now runs.now count }
 {
-    if count <= 1024 {
-        if 4 * count <= runs.len() {
-            return block_ready(block);
-        }
-    }
-    false
+    count <= 1024 && 4 * count <= runs.len() && block_ready(block)
 }
 
 // The writer's answer by way of the records that the lists are.
-fn by_records(block: &[u16], runs: &[u32], count: usize, bins: &mut [u8]) -> Written
-    ensures { (result ≡ write_of (block_of block.now) (runs_of runs.now count) count (length bins.old)) × (bins.new ≡ list_after (block_of block.now) (runs_of runs.now count) count bins.old) }
+fn by_records(block: &[u16], runs: &[u32], count: usize, bins: &mut [u8]) -> Result<usize, Refusal>
+    ensures { (as_written result ≡ write_of (block_of block.now) (runs_of runs.now count) count (length bins.old)) × (bins.new ≡ list_after (block_of block.now) (runs_of runs.now count) count bins.old) }
 {
-    let cu = block_of(block);
-    let given = runs_of(runs, count);
-    write_palette_cu(bins, cu, given, count)
+    write_palette_cu(bins, block_of(block), runs_of(runs, count), count)
 }
 
 // The same. A count that no block has is told apart, so that the records stay out of a call in order.
-fn written(block: &[u16], runs: &[u32], count: usize, bins: &mut [u8]) -> Written
-    ensures { (result ≡ write_of (block_of block.now) (runs_of runs.now count) count (length bins.old)) × (bins.new ≡ list_after (block_of block.now) (runs_of runs.now count) count bins.old) }
+fn written(block: &[u16], runs: &[u32], count: usize, bins: &mut [u8]) -> Result<usize, Refusal>
+    ensures { (as_written result ≡ write_of (block_of block.now) (runs_of runs.now count) count (length bins.old)) × (bins.new ≡ list_after (block_of block.now) (runs_of runs.now count) count bins.old) }
 {
     if 1024 < count {
         return by_records(block, runs, count, bins);
@@ -59,10 +54,11 @@ pub extern "C" fn velomitra_write_palette_cu(
     ensures { (result, record { bins = bins.exit.now; used = used.new })
         ≡ write_out block.now runs.now count (record { bins = bins.entry.now; used = used.old }) }
 {
-    let done = written(block, runs, count, bins);
-    if done.refusal == 0 {
-        put_count(used, done.bins);
-        return 0;
+    match written(block, runs, count, bins) {
+        Ok(n) => {
+            put_count(used, n);
+            0
+        }
+        Err(refusal) => u8::from(refusal),
     }
-    done.refusal
 }

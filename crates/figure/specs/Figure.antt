@@ -1,5 +1,5 @@
 -- Document 01: the sample of a scan cell, and the error figure.
-use Rattle.std.specs.Prelude.{Bool, true, false, not, List, [], ◌∷◌, ℕ, ◌+◌, ◌*◌, ◌%◌, eqb, get_or}
+use Rattle.std.specs.Prelude.{Bool, not, [], ◌∷◌, ℕ, ◌+◌, ◌*◌, ◌%◌, eqb, get_or}
 use Rattle.base.specs.Pick.{pick}
 use Rattle.base.specs.Sums.{sum_to}
 use Rattle.base.specs.Tests.{every}

@@ -1,12 +1,13 @@
 -- One row of the scan and of the figure, and that errors are small.
-use Rattle.std.specs.Prelude.{Bool, true, false, not, ◌&&◌, List, [], ◌∷◌, ◌≡◌, refl, ℕ, zero, suc, ◌+◌, ◌*◌, ◌-◌, ◌/◌, ◌%◌, ◌≤◌, ◌<◌, eqb, get_or}
+use Rattle.std.specs.Prelude.{Bool, true, false, not, ◌&&◌, List, [], ◌∷◌, ◌≡◌, refl, ℕ, ◌+◌, ◌*◌, ◌-◌, ◌%◌, ◌≤◌, ◌<◌, eqb, get_or, length, take, drop}
 use Rattle.std.proofs.Common.{ap, sym, ◌∙◌, mul-le-mul, arith}
+use Rattle.std.proofs.Math.ListN.{length-take, length-drop}
+use Rattle.std.proofs.lemmas.List.{get_or-take, get_or-drop}
 use Rattle.base.specs.Pick.{pick}
-use Rattle.base.specs.Cells.{laid, laid-row, row_small}
-use Rattle.base.specs.Sums.{sum_to, sum_to-none, sum_to-add, sum_to-same}
+use Rattle.base.specs.Sums.{sum_to, sum_to-add, sum_to-same}
 use Rattle.base.specs.Tests.{every}
 use Rattle.h265.specs.Scan.{along, col_of, row_of}
-use Rattle.h265.specs.ScanLaws.{place_row, place_col, in_block}
+use Rattle.h265.specs.ScanLaws.{along_lt, place_row, place_col, in_block}
 use Rattle.quant.specs.Quant.{gap, y_of, u_of, v_of}
 use Rattle.model.specs.Domain.{sub_w, sub_h}
 use Rattle.model.specs.declared.PaletteCu.{PaletteCu}
@@ -54,6 +55,20 @@ error_self chroma a =
 -- what a row loop adds at place x of its row, which starts at place a
 abbrev pub row_error : List ℕ → List ℕ → ℕ → ℕ → ℕ → Bool → ℕ → ℕ → ℕ
 row_error values cells size row a chroma cx x = error_of (chroma && eqb (along size row x % cx) 0) (get_or values (a + x) 0) (get_or cells (a + along size row x) 0)
+
+-- the row as a part of the lists
+part_at : (l : List ℕ) (a size x : ℕ) → x < size → get_or (take (a + size - a) (drop a l)) (0 + x) 0 ≡ get_or l (a + x) 0
+part_at l a size x h =
+    let z : 0 + x ≡ x = omega arith in
+    let k : x < a + size - a = omega arith in
+    rw z (get_or-take (a + size - a) (drop a l) x 0 k ∙ get_or-drop a l x 0)
+
+pub error_part : (values cells : List ℕ) (size row a cx : ℕ) (chroma : Bool) → a + size ≤ length values
+    → sum_to (length (take (a + size - a) (drop a values))) (row_error (take (a + size - a) (drop a values)) (take (a + size - a) (drop a cells)) (length (take (a + size - a) (drop a values))) row 0 chroma cx)
+    ≡ sum_to size (row_error values cells size row a chroma cx)
+error_part values cells size row a cx chroma h =
+    let n : length (take (a + size - a) (drop a values)) ≡ size = omega (arith, length-take (a + size - a) (drop a values), length-drop a values) in
+    rw n (sum_to-same size _ _ (λ x m. rw (part_at values a size x m, part_at cells a size (along size row x) (along_lt size row x m))))
 
 -- chroma by columns and rows of the scan grid
 chroma_grid : (format : ℕ) (transpose : Bool) (x y : ℕ)

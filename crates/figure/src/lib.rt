@@ -15,10 +15,7 @@ fn column(size: usize, row: usize, x: usize) -> usize
     requires { x < size }
     ensures { (result ≡ along size row x) × (result < size) }
 {
-    if row % 2 == 0 {
-        return x;
-    }
-    size - 1 - x
+    if row % 2 == 0 { x } else { size - 1 - x }
 }
 
 // Where the sample of a cell of the scan grid stands among the samples row by row.
@@ -27,28 +24,19 @@ fn place(transpose: bool, size: usize, row: usize, col: usize) -> usize
     ensures { (result ≡ pick transpose (col * size + row) (row * size + col)) × (result < 1024) }
 {
     if transpose {
-        return col * size + row;
+        col * size + row
+    } else {
+        row * size + col
     }
-    row * size + col
 }
 
 // One row of the samples in scan order.
-fn unroll_row(
-    cells: &[u64; 1024],
-    transpose: bool,
-    size: usize,
-    row: usize,
-    out: &mut [u64; 1024],
-    a: usize,
-)
-    requires { (size ≤ 32) × (row < size) × (a ≡ row * size) }
-    ensures { out.new ≡ laid (scan_sample transpose size (in_rows size cells.now)) out.old a size }
+fn unroll_row(cells: &[u64; 1024], transpose: bool, size: usize, row: usize, out: &mut [u64])
+    requires { (size ≤ 32) × (row < size) × (length out.old ≡ size) }
+    ensures { out.new ≡ laid (λ x. scan_sample transpose size (in_rows size cells.now) (row * size + x)) out.old 0 (length out.old) }
 {
-    let mut x: usize = 0;
-    while x < size {
-        let c = cells[place(transpose, size, row, column(size, row, x))];
-        out[a + x] = c;
-        x += 1;
+    for (x, cell) in out.iter_mut().enumerate() {
+        *cell = cells[place(transpose, size, row, column(size, row, x))];
     }
 }
 
@@ -57,12 +45,10 @@ pub fn unroll(cells: &[u64; 1024], transpose: bool, size: usize, out: &mut [u64;
     requires { size ≤ 32 }
     ensures { out.new ≡ laid (scan_sample transpose size (in_rows size cells.now)) out.old 0 (size * size) }
 {
-    let mut a: usize = 0;
-    let mut row: usize = 0;
-    while row < size {
-        unroll_row(cells, transpose, size, row, out, a);
-        a += size;
-        row += 1;
+    for row in 0..size {
+        let from = row * size;
+        let part = &mut out[from..from + size];
+        unroll_row(cells, transpose, size, row, part);
     }
 }
 
@@ -71,13 +57,12 @@ fn squared(a: u64, b: u64) -> u64
     requires { (a < 65536) × (b < 65536) }
     ensures { (result ≡ square a b) × (result ≤ 4294836225) }
 {
-    if a < b {
-        return (b - a) * (b - a);
-    }
-    (a - b) * (a - b)
+    let d = a.abs_diff(b);
+    d * d
 }
 
 // The error of one cell.
+#[tactic(auto, unfolding(crate::specs::Figure::error_of))]
 fn cell_error(chroma: bool, a: u64, b: u64) -> u64
     ensures { (result ≡ error_of chroma a b) × (result ≤ 12884508675) }
 {
@@ -98,32 +83,19 @@ fn multiple(k: usize, by: usize) -> bool
     requires { (1 ≤ by) × (by ≤ 2) }
     ensures { result ≡ eqb (k % by) 0 }
 {
-    if by == 2 {
-        return k % 2 == 0;
-    }
-    true
+    by == 1 || k % 2 == 0
 }
 
 // The error of one row; where the row has chroma, there is a chroma sample every cx columns.
-fn row_error(
-    values: &[u64; 1024],
-    cells: &[u64; 1024],
-    size: usize,
-    row: usize,
-    a: usize,
-    chroma: bool,
-    cx: usize,
-) -> u64
-    requires { (size ≤ 32) × (row < size) × (a ≡ row * size) × (1 ≤ cx) × (cx ≤ 2) }
-    ensures { (result ≡ sum_to size (row_error values.now cells.now size row a chroma cx)) × (result ≤ 412304277600) }
+fn row_error(values: &[u64], cells: &[u64], row: usize, chroma: bool, cx: usize) -> u64
+    requires { (length values.now ≤ 32) × (length cells.now ≡ length values.now) × (1 ≤ cx) × (cx ≤ 2) }
+    ensures { (result ≡ sum_to (length values.now) (row_error values.now cells.now (length values.now) row 0 chroma cx)) × (result ≤ 412304277600) }
 {
-    let mut sum: u64 = 0;
-    let mut x: usize = 0;
-    while x < size {
-        let col = column(size, row, x);
+    let mut sum = 0;
+    for (x, value) in values.iter().enumerate() {
+        let col = column(values.len(), row, x);
         let c = chroma & multiple(col, cx);
-        sum += cell_error(c, values[a + x], cells[a + col]);
-        x += 1;
+        sum += cell_error(c, *value, cells[col]);
     }
     sum
 }
@@ -133,9 +105,10 @@ fn grid_w(format: u8, transpose: bool) -> usize
     ensures { (result ≡ pick transpose (sub_h format) (sub_w format)) × (1 ≤ result) × (result ≤ 2) }
 {
     if transpose {
-        return samples::sub_h(format);
+        samples::sub_h(format)
+    } else {
+        samples::sub_w(format)
     }
-    samples::sub_w(format)
 }
 
 // The rows of the scan grid to one of chroma.
@@ -143,9 +116,10 @@ fn grid_h(format: u8, transpose: bool) -> usize
     ensures { (result ≡ pick transpose (sub_w format) (sub_h format)) × (1 ≤ result) × (result ≤ 2) }
 {
     if transpose {
-        return samples::sub_w(format);
+        samples::sub_w(format)
+    } else {
+        samples::sub_h(format)
     }
-    samples::sub_h(format)
 }
 
 // The error figure: values in scan order against samples row by row.
@@ -161,14 +135,12 @@ pub fn error_figure(
 {
     let cx = grid_w(format, transpose);
     let ry = grid_h(format, transpose);
-    let mut sum: u64 = 0;
-    let mut a: usize = 0;
-    let mut row: usize = 0;
-    while row < size {
+    let mut sum = 0;
+    for row in 0..size {
         let chroma = (format != 0) & multiple(row, ry);
-        sum += row_error(values, cells, size, row, a, chroma, cx);
-        a += size;
-        row += 1;
+        let from = row * size;
+        let to = from + size;
+        sum += row_error(&values[from..to], &cells[from..to], row, chroma, cx);
     }
     sum
 }

@@ -1,5 +1,5 @@
 -- A plan as the code holds it: how many runs, the total in bits, and the runs at the front of 1024, of which the rest are blank.
-use Rattle.std.specs.Prelude.{List, ℕ, Float, length, replicate}
+use Rattle.std.specs.Prelude.{List, Float, length, replicate}
 use Rattle.std.proofs.lemmas.List.Edits.{sets}
 use Rattle.model.specs.declared.PaletteRun.{PaletteRun}
 use Rattle.paths.specs.Plan.{Planned}

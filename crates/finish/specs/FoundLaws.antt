@@ -3,7 +3,6 @@ use Rattle.std.specs.Prelude.{◌≡◌, refl, Bool, false, List, [], ◌∷◌,
 use Rattle.std.proofs.Common.{ap}
 use Rattle.paths.specs.Plan.{Point}
 use Rattle.walk.specs.Points.{runs_in}
-use Rattle.finish.specs.declared.Found.{Found}
 use Rattle.finish.specs.Found.{laid_runs, found}
 
 pub length_runs : (xs above : List ℕ) (p : ℕ) (k : Bool) (es : List Point) → length (runs_in xs above p k es) ≡ length es

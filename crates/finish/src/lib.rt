@@ -12,6 +12,7 @@ use model::PaletteRun;
 use walk::{lay, runs_of};
 
 // A count of runs, the total in bits, and the runs.
+// Stays an array with its count: no heap.
 #[derive(Clone, Copy)]
 pub struct Found {
     pub count: usize,
@@ -23,10 +24,7 @@ pub struct Found {
 pub fn chosen(k: bool, e0: f32, e1: f32) -> f32
     ensures { result ≡ pick k e1 e0 }
 {
-    if k {
-        return e1;
-    }
-    e0
+    if k { e1 } else { e0 }
 }
 
 // The runs of the path that ends at n, with the cheaper of the two ends.

@@ -1,5 +1,5 @@
 -- Blocks, predictors, configurations and geometries as lists of numbers; the layout stands in src/lib.rt.
-use Rattle.std.specs.Prelude.{Bool, false, List, [], ◌∷◌, ◌++◌, map, ℕ, ◌+◌, ◌*◌, ◌/◌, ◌%◌, min, eqb, ℤ, pos, negsuc, get_or, replicate}
+use Rattle.std.specs.Prelude.{false, List, [], ◌∷◌, ◌++◌, map, ℕ, ◌+◌, ◌*◌, ◌/◌, ◌%◌, min, eqb, ℤ, pos, negsuc, get_or, replicate}
 use Rattle.base.specs.Cells.{laid}
 use Rattle.h265.specs.Strings.{bit}
 use Rattle.model.specs.declared.Color.{Color}

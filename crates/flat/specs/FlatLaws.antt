@@ -1,17 +1,17 @@
 -- What the readers of numbers meet, and that a flat form is read back.
-use Rattle.std.specs.Prelude.{◌≡◌, Bool, true, ℕ, zero, suc, ◌+◌, ◌*◌, ◌/◌, ◌%◌, ◌≤◌, ◌<◌, min, T, ℤ, pos, negsuc, nat_abs, length, get_or, set, replicate}
+use Rattle.std.specs.Prelude.{◌≡◌, Bool, true, ℕ, zero, suc, ◌+◌, ◌-◌, ◌*◌, ◌/◌, ◌%◌, ◌≤◌, ◌<◌, min, length, get_or, take, drop, replicate}
 use Rattle.std.proofs.Math.Path.{refl, ap}
-use Rattle.std.proofs.Common.{sym, ◌∙◌, add_assoc, not-suc-le-zero, mod-eq_of_lt, ltb-true, ltb-false, length-append, get_or-append-add, ext_get_or}
+use Rattle.std.proofs.Common.{sym, ◌∙◌, add_assoc, mod-eq_of_lt, length-append, get_or-append-add, ext_get_or}
 use Rattle.std.proofs.Math.Bool.{false}
-use mathlib.Core.List.{List, [], ◌∷◌, ◌++◌, map, append_assoc, append-nil}
-use Rattle.std.proofs.Math.Nat.{min-eq_left, min-eq_right, div-div-eq-div-mul}
+use mathlib.Core.List.{List, [], ◌∷◌, ◌++◌, map, append-nil}
+use Rattle.std.proofs.Math.Nat.{min-eq_left, div-div-eq-div-mul}
 use native.Mathlib.Omega.{arith}
 use Rattle.std.proofs.Math.Dec.{eqb}
-use Rattle.std.proofs.lemmas.List.{length-replicate, length-map}
+use Rattle.std.proofs.lemmas.List.{length-replicate, length-map, length-take, length-drop, get_or-take, get_or-drop, get_or-append_right, get_or-replicate, get_or_past}
+use Rattle.std.proofs.Math.Logic.{⊎_elim}
 use Rattle.std.proofs.Math.ListN.{get_or-append, get_or-map}
-use Rattle.std.specs.Int.Signed.{lt_z, non_neg}
-use Rattle.base.specs.Cells.{laid, laid_in, laid-length, laid_on_lem, laid_same}
-use Rattle.base.specs.Pick.{true_false}
+use Rattle.base.specs.Cells.{laid_in, laid-length, laid_same}
+use Rattle.base.specs.Pick.{lt_or_le}
 use Rattle.h265.specs.Strings.{bit}
 use Rattle.model.specs.declared.Color.{Color}
 use Rattle.model.specs.declared.Levels.{Levels}
@@ -19,7 +19,7 @@ use Rattle.model.specs.declared.PaletteCu.{PaletteCu}
 use Rattle.model.specs.declared.PalettePredictor.{PalettePredictor}
 use Rattle.model.specs.Domain.{no_color}
 use Rattle.model.specs.Whole.{no_levels}
-use Rattle.flat.specs.Flat.{number, byte, each, color_at, levels_at, long_at, block_of, predictor_of, byte_of, short, head_of, colors_of, levels_of, flat_block, flat_predictor}
+use Rattle.flat.specs.Flat.{number, byte, each, color_at, levels_at, long_at, block_of, predictor_of, short, head_of, colors_of, levels_of, flat_block, flat_predictor}
 
 -- ---- elements made from places
 
@@ -31,21 +31,23 @@ each_by a n f xs e h =
     let k : length (each a n f) ≡ n = laid-length f (replicate n a) 0 n ∙ length-replicate n a in
     ext_get_or a (each a n f) xs (k ∙ sym e) (λ i m. let l : i < n = omega arith in each_at_lem a a n f i l ∙ h i l)
 
--- one turn of a loop that lays four places
-pub laid-four : {A : Type 0} (f : ℕ → A) (l out : List A) (k : ℕ) (a b c d : A) → out ≡ laid f l 0 (4 * k) → a ≡ f (4 * k) → b ≡ f (4 * k + 1) → c ≡ f (4 * k + 2) → d ≡ f (4 * k + 3)
-    → set (set (set (set out (4 * k) a) (4 * k + 1) b) (4 * k + 2) c) (4 * k + 3) d ≡ laid f l 0 (4 * (k + 1))
-laid-four f l out k a b c d e ea eb ec ed =
-    let i = 4 * k in
-    let z₂ : i + 1 + 1 ≡ i + 2 = omega arith in
-    let z₃ : i + 2 + 1 ≡ i + 3 = omega arith in
-    let z₄ : i + 3 + 1 ≡ 4 * (k + 1) = omega arith in
-    let o₁ = set out i a in
-    let o₂ = set o₁ (i + 1) b in
-    let o₃ = set o₂ (i + 2) c in
-    let e₁ : o₁ ≡ laid f l 0 (i + 1) = laid_on_lem f l out i a e ea in
-    let e₂ : o₂ ≡ laid f l 0 (i + 2) = laid_on_lem f l o₁ (i + 1) b e₁ eb ∙ ap (laid f l 0) z₂ in
-    let e₃ : o₃ ≡ laid f l 0 (i + 3) = laid_on_lem f l o₂ (i + 2) c e₂ ec ∙ ap (laid f l 0) z₃ in
-    laid_on_lem f l o₃ (i + 3) d e₃ ed ∙ ap (laid f l 0) z₄
+padded_at : (l zs : List ℕ) (n m i : ℕ) → n ≡ min (length l) m → length (take n l) ≡ n → zs ≡ drop n (replicate {A = ℕ} m 0) → i < m → number l i ≡ get_or (take n l ++ zs) i 0
+padded_at l zs n m i e f d h =
+    ⊎_elim
+    (λ (k : i < n). sym (get_or-append (take n l) zs 0 i (omega arith) ∙ get_or-take n l i 0 k))
+    (λ (k : n ≤ i).
+    let z : n + (i - n) ≡ i = omega arith in
+    let q : get_or zs (i - n) 0 ≡ 0 = rw (d, get_or-drop n (replicate {A = ℕ} m 0) (i - n) 0, z) (get_or-replicate m i 0 0 h) in
+    get_or_past l i 0 (omega arith) ∙ sym (get_or-append_right (take n l) zs n i 0 f k ∙ q))
+    (lt_or_le i n)
+
+-- the first n of a list, and zeros up to m
+pub padded_is : (l : List ℕ) (n m : ℕ) → n ≡ min (length l) m → take n l ++ drop n (replicate m 0) ≡ each 0 m (number l)
+padded_is l n m e =
+    let zs = drop n (replicate {A = ℕ} m 0) in
+    let f : length (take n l) ≡ n = omega (arith, length-take n l) in
+    let g : length zs ≡ m - n = omega (arith, length-drop n (replicate {A = ℕ} m 0), length-replicate {A = ℕ} m 0) in
+    sym (each_by 0 m (number l) (take n l ++ zs) (omega (arith, length-append (take n l) zs)) (λ i h. padded_at l zs n m i e f refl h))
 
 -- ---- the block from its parts
 
@@ -81,28 +83,6 @@ module _ (l h : List ℕ) (e : h ≡ each 0 16 (number l)) where
         head_at 13 (omega arith),
         head_at 14 (omega arith),
       )
-
--- ---- a signed number held to a byte
-
-pub byte-below : (x : ℤ) → lt_z x (pos 0) ≡ true → 255 ≡ byte_of x
-unfolding byte_of
-byte-below (pos n) h = absurd (not-suc-le-zero (ltb-true n 0 h))
-byte-below (negsuc n) h = refl
-
-pub byte-over : (x : ℤ) → lt_z (pos 255) x ≡ true → 255 ≡ byte_of x
-unfolding byte_of
-byte-over (pos n) h = let l : 255 ≤ n = omega (arith, ltb-true 255 n h) in sym (min-eq_right l)
-byte-over (negsuc n) h = absurd (true_false (sym h))
-
-pub record Byte (x : ℤ) : Type 0 where
-  pub from : T (non_neg x)
-  pub small : nat_abs x ≤ 255
-  pub is : nat_abs x ≡ byte_of x
-
-pub byte-is : (x : ℤ) → lt_z x (pos 0) ≡ false → lt_z (pos 255) x ≡ false → Byte x
-unfolding byte_of
-byte-is (pos n) h k = let l : n ≤ 255 = omega (arith, ltb-false 255 n k) in record { from = tt; small = l; is = sym (min-eq_left l) }
-byte-is (negsuc n) h k = absurd (true_false h)
 
 -- ---- the places of a flat form
 

@@ -16,38 +16,35 @@ ghost use Rattle.flat.specs.Flat.{number, byte, each, color_at, levels_at, long_
 
 use model::{Color, Levels, PaletteConfig, PaletteCu, PalettePredictor, SourceBlock};
 
-// The number at a place, 0 past the end.
-fn number(list: &[u16], i: usize) -> u16
-    ensures { result ≡ number list.now i }
+// The number at a place, the one given past the end.
+fn number<T: Copy>(list: &[T], i: usize, past: T) -> T
+    ensures { result ≡ get_or list.now i past }
 {
-    if i < list.len() {
-        return list[i];
-    }
-    0
+    list.get(i).copied().unwrap_or(past)
 }
 
 // A number held to a byte.
 pub fn byte(x: u16) -> u8
     ensures { result ≡ byte x }
 {
-    if x < 255 {
-        return x as u8;
-    }
-    255
+    x.min(255) as u8
 }
 
 // The colour at a place.
+#[tactic(auto, unfolding(crate::specs::Flat::color_at))]
 fn color_at(list: &[u16], p: usize) -> Color
     requires { p ≤ 4432 }
     ensures { result ≡ color_at list.now p }
 {
-    let y = number(list, p);
-    let cb = number(list, p + 1);
-    let cr = number(list, p + 2);
-    Color { y, cb, cr }
+    Color {
+        y: number(list, p, 0),
+        cb: number(list, p + 1, 0),
+        cr: number(list, p + 2, 0),
+    }
 }
 
 // The colour at a place that is there.
+#[tactic(auto, unfolding(crate::specs::Flat::color_at))]
 fn color_in(list: &[u16], p: usize) -> Color
     requires { p + 3 ≤ length list.now }
     ensures { result ≡ color_at list.now p }
@@ -60,6 +57,7 @@ fn color_in(list: &[u16], p: usize) -> Color
 }
 
 // The levels at a place that is there.
+#[tactic(auto, unfolding(crate::specs::Flat::levels_at))]
 fn levels_in(list: &[u16], p: usize) -> Levels
     requires { p + 3 ≤ length list.now }
     ensures { result ≡ levels_at list.now p }
@@ -77,11 +75,8 @@ pub fn palette_of(list: &[u16]) -> [Color; 64]
     ensures { result ≡ each no_color 64 (λ i. color_at list.now (16 + 3 * i)) }
 {
     let mut out = [Color { y: 0, cb: 0, cr: 0 }; 64];
-    let mut i: usize = 0;
-    while i < 64 {
-        let c = color_in(list, 16 + 3 * i);
-        out[i] = c;
-        i += 1;
+    for (i, color) in out.iter_mut().enumerate() {
+        *color = color_in(list, 16 + 3 * i);
     }
     out
 }
@@ -92,10 +87,8 @@ pub fn flags_of(list: &[u16]) -> [bool; 128]
     ensures { result ≡ each false 128 (λ i. eqb (number list.now (208 + i)) 1) }
 {
     let mut out = [false; 128];
-    let mut i: usize = 0;
-    while i < 128 {
-        out[i] = list[208 + i] == 1;
-        i += 1;
+    for (i, flag) in out.iter_mut().enumerate() {
+        *flag = list[208 + i] == 1;
     }
     out
 }
@@ -105,33 +98,21 @@ pub fn indices_of(list: &[u16]) -> [u8; 1024]
     requires { 4432 ≤ length list.now }
     ensures { result ≡ each 0 1024 (λ i. byte (number list.now (336 + i))) }
 {
-    let mut out: [u8; 1024] = [0; 1024];
-    let mut i: usize = 0;
-    while i < 1024 {
-        out[i] = byte(list[336 + i]);
-        i += 1;
+    let mut out = [0; 1024];
+    for (i, index) in out.iter_mut().enumerate() {
+        *index = byte(list[336 + i]);
     }
     out
 }
 
-// A block's levels, four cells at a turn.
+// A block's levels.
 pub fn escapes_of(list: &[u16]) -> [Levels; 1024]
     requires { 4432 ≤ length list.now }
     ensures { result ≡ each no_levels 1024 (λ i. levels_at list.now (1360 + 3 * i)) }
 {
     let mut out = [Levels { y: 0, cb: 0, cr: 0 }; 1024];
-    let mut k: usize = 0;
-    while k < 256 {
-        let i = 4 * k;
-        let a = levels_in(list, 1360 + 3 * i);
-        let b = levels_in(list, 1360 + 3 * (i + 1));
-        let c = levels_in(list, 1360 + 3 * (i + 2));
-        let d = levels_in(list, 1360 + 3 * (i + 3));
-        out[i] = a;
-        out[i + 1] = b;
-        out[i + 2] = c;
-        out[i + 3] = d;
-        k += 1;
+    for (i, levels) in out.iter_mut().enumerate() {
+        *levels = levels_in(list, 1360 + 3 * i);
     }
     out
 }
@@ -140,11 +121,9 @@ pub fn escapes_of(list: &[u16]) -> [Levels; 1024]
 fn head_of(list: &[u16]) -> [u16; 16]
     ensures { result ≡ each 0 16 (number list.now) }
 {
-    let mut out: [u16; 16] = [0; 16];
-    let mut i: usize = 0;
-    while i < 16 {
-        out[i] = number(list, i);
-        i += 1;
+    let mut out = [0; 16];
+    for (i, x) in out.iter_mut().enumerate() {
+        *x = number(list, i, 0);
     }
     out
 }
@@ -153,7 +132,7 @@ fn head_of(list: &[u16]) -> [u16; 16]
 fn long(a: u16, b: u16, c: u16, d: u16) -> u64
     ensures { result ≡ a + 65536 * b + 4294967296 * c + 281474976710656 * d }
 {
-    a as u64 + 65536 * (b as u64) + 4294967296 * (c as u64) + 281474976710656 * (d as u64)
+    u64::from(a) + 65536 * u64::from(b) + 4294967296 * u64::from(c) + 281474976710656 * u64::from(d)
 }
 
 // The block that a list of all its numbers is.
@@ -162,28 +141,23 @@ fn whole_block(list: &[u16]) -> PaletteCu
     ensures { result ≡ block_of list.now }
 {
     let h = head_of(list);
-    let palette = palette_of(list);
-    let reused = flags_of(list);
-    let indices = indices_of(list);
-    let escapes = escapes_of(list);
-    let tolerance = h[10] as u64;
     PaletteCu {
-        size: h[0] as usize,
+        size: usize::from(h[0]),
         chroma_idc: byte(h[1]),
         bd_luma: byte(h[2]),
         bd_chroma: byte(h[3]),
         lossless: h[4] == 1,
-        palette,
-        palette_size: h[5] as usize,
-        reused,
-        pred_size: h[6] as usize,
-        num_signaled: h[7] as usize,
+        palette: palette_of(list),
+        palette_size: usize::from(h[5]),
+        reused: flags_of(list),
+        pred_size: usize::from(h[6]),
+        num_signaled: usize::from(h[7]),
         escape_present: h[8] == 1,
         transpose: h[9] == 1,
-        indices,
-        escapes,
+        indices: indices_of(list),
+        escapes: escapes_of(list),
         sse: long(h[11], h[12], h[13], h[14]),
-        tolerance,
+        tolerance: u64::from(h[10]),
     }
 }
 
@@ -191,12 +165,9 @@ fn whole_block(list: &[u16]) -> PaletteCu
 fn padded(list: &[u16]) -> [u16; 4432]
     ensures { result ≡ each 0 4432 (number list.now) }
 {
-    let mut out: [u16; 4432] = [0; 4432];
-    let mut i: usize = 0;
-    while i < 4432 {
-        out[i] = number(list, i);
-        i += 1;
-    }
+    let mut out = [0; 4432];
+    let n = list.len().min(4432);
+    out[..n].copy_from_slice(&list[..n]);
     out
 }
 
@@ -207,8 +178,7 @@ pub fn block_of(list: &[u16]) -> PaletteCu
     if 4432 <= list.len() {
         return whole_block(list);
     }
-    let all = padded(list);
-    whole_block(&all)
+    whole_block(&padded(list))
 }
 
 // A predictor's entries.
@@ -216,93 +186,67 @@ fn entries_of(list: &[u16]) -> [Color; 128]
     ensures { result ≡ each no_color 128 (λ i. color_at list.now (1 + 3 * i)) }
 {
     let mut out = [Color { y: 0, cb: 0, cr: 0 }; 128];
-    let mut i: usize = 0;
-    while i < 128 {
-        let c = color_at(list, 1 + 3 * i);
-        out[i] = c;
-        i += 1;
+    for (i, color) in out.iter_mut().enumerate() {
+        *color = color_at(list, 1 + 3 * i);
     }
     out
 }
 
 // The predictor that a list of numbers is.
+#[tactic(auto, unfolding(crate::specs::Flat::predictor_of))]
 pub fn predictor_of(list: &[u16]) -> PalettePredictor
     ensures { result ≡ predictor_of list.now }
 {
-    let entries = entries_of(list);
     PalettePredictor {
-        entries,
-        size: number(list, 0) as usize,
+        entries: entries_of(list),
+        size: usize::from(number(list, 0, 0)),
     }
-}
-
-// The signed number at a place, 0 past the end.
-fn signed(list: &[i32], i: usize) -> i32
-    ensures { result ≡ signed list.now i }
-{
-    if i < list.len() {
-        return list[i];
-    }
-    0
 }
 
 // A signed number held to a byte, negatives as 255.
+#[tactic(auto, unfolding(crate::specs::Flat::byte_of))]
 fn byte_of(x: i32) -> u8
     ensures { result ≡ byte_of x }
 {
-    if x < 0 {
-        return 255;
-    }
-    if 255 < x {
-        return 255;
-    }
-    x as u8
+    u8::try_from(x).unwrap_or(255)
 }
 
 // The byte at a place of signed numbers.
 fn byte_at(list: &[i32], i: usize) -> u8
     ensures { result ≡ byte_of (signed list.now i) }
 {
-    byte_of(signed(list, i))
+    byte_of(number(list, i, 0))
 }
 
 // The configuration that a list of numbers is.
+#[tactic(auto, unfolding(crate::specs::Flat::config_of))]
 pub fn config_of(list: &[i32]) -> PaletteConfig
     ensures { result ≡ config_of list.now }
 {
     PaletteConfig {
-        num_comps: byte_at(list, 0) as usize,
+        num_comps: usize::from(byte_at(list, 0)),
         chroma_idc: byte_at(list, 1),
         bd_luma: byte_at(list, 2),
         bd_chroma: byte_at(list, 3),
-        qp_y: signed(list, 4),
-        qp_cb: signed(list, 5),
-        qp_cr: signed(list, 6),
+        qp_y: number(list, 4, 0),
+        qp_cb: number(list, 5, 0),
+        qp_cr: number(list, 6, 0),
         lossless: byte_at(list, 7) == 1,
     }
 }
 
-// The size at a place, 0 past the end.
-fn size_at(list: &[usize], i: usize) -> usize
-    ensures { result ≡ number list.now i }
-{
-    if i < list.len() {
-        return list[i];
-    }
-    0
-}
-
 // The geometry that a list of numbers is.
+#[tactic(auto, unfolding(crate::specs::Flat::source_of))]
 pub fn source_of(list: &[usize]) -> SourceBlock
     ensures { result ≡ source_of list.now }
 {
     SourceBlock {
-        yw: size_at(list, 0),
-        yh: size_at(list, 1),
-        cw: size_at(list, 2),
-        chh: size_at(list, 3),
-        x0: size_at(list, 4),
-        y0: size_at(list, 5),
-        size: size_at(list, 6),
+        yw: number(list, 0, 0),
+        yh: number(list, 1, 0),
+        cw: number(list, 2, 0),
+        chh: number(list, 3, 0),
+        x0: number(list, 4, 0),
+        y0: number(list, 5, 0),
+        size: number(list, 6, 0),
     }
 }

@@ -1,9 +1,9 @@
 -- The list after an assignment is that of the block that assignment makes.
-use Rattle.std.specs.Prelude.{◌≡◌, refl, Bool, not, ℕ, ◌+◌, ◌*◌, ◌≤◌, ◌<◌, eqb, leb, get_or, replicate}
+use Rattle.std.specs.Prelude.{◌≡◌, refl, Bool, not, ℕ, ◌+◌, ◌*◌, ◌≤◌, ◌<◌, eqb, get_or, replicate}
 use Rattle.std.proofs.Math.Path.{ap}
 use Rattle.std.proofs.Common.{sym, ◌∙◌, length-append}
 use Rattle.std.proofs.Math.Bool.{true, false}
-use mathlib.Core.List.{List, [], ◌∷◌, ◌++◌, map}
+use mathlib.Core.List.{List, ◌++◌, map}
 use native.Mathlib.Omega.{arith}
 use borrow.Author.Tests.{le-leb, lt-leb}
 use Rattle.std.proofs.Math.ListN.{length, length-replicate}
@@ -26,8 +26,7 @@ use Rattle.assign.specs.Assign.{index_of, escapes_of}
 use Rattle.levels.specs.Levels.{scale_of}
 use Rattle.figure.specs.Figure.{scan_sample, figure_of, block_figure}
 use Rattle.figure.specs.Laws.{in_rows, figure_same}
-use Rattle.assigning.specs.declared.Assigned.{Assigned}
-use Rattle.assigning.specs.Assigning.{with_cells, with_sse, mapped, escapes, escapes_in}
+use Rattle.assigning.specs.Assigning.{Assigned, with_cells, with_sse, mapped, escapes, escapes_in}
 use Rattle.assigning.specs.Laws.{map_of, map-refused, map-made, escapes-made, mapped-made}
 use Rattle.flatassign.specs.Places.{with_levels, sets_swap, escapes-long}
 use Rattle.flatassign.specs.Filling.{cell_levels, cell_value}

@@ -1,5 +1,5 @@
 -- A list whose cells get their levels, 0 first and then those of escapes.
-use Rattle.std.specs.Prelude.{◌≡◌, Bool, true, false, ℕ, ◌+◌, ◌≤◌, ◌<◌, eqb, set}
+use Rattle.std.specs.Prelude.{◌≡◌, ℕ, ◌+◌, ◌≤◌, ◌<◌, eqb, set}
 use Rattle.std.proofs.Math.Path.{refl, ap, sym}
 use Rattle.std.proofs.Common.{◌∙◌, arith}
 use mathlib.Core.List.{List}
@@ -8,7 +8,7 @@ use Rattle.std.proofs.Math.ListN.{length, get_or}
 use Rattle.std.proofs.lemmas.List.{set-get_or}
 use Rattle.std.proofs.Math.Seq.{ext_get_or}
 use Rattle.base.specs.Pick.{pick, either, lt_or_le}
-use Rattle.base.specs.Cells.{laid, laid_none, laid_on_lem, laid_next, laid_in, laid-after, laid-length}
+use Rattle.base.specs.Cells.{laid, laid_none, laid_on_lem, laid_in, laid-after, laid-length}
 use Rattle.flat.specs.Flat.{block_of}
 use Rattle.levels.specs.Levels.{levels_of, levels_at, value_at}
 use Rattle.levels.specs.declared.Scale.{Scale}

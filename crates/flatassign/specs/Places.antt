@@ -1,10 +1,10 @@
 -- The levels of cells in a block's list: three numbers to a cell, from place 1360 on.
-use Rattle.std.specs.Prelude.{◌≡◌, refl, List, [], ◌∷◌, ◌++◌, ℕ, zero, suc, ◌+◌, ◌*◌, ◌-◌, ◌≤◌, ◌<◌, length, get_or, set, drop}
-use Rattle.std.proofs.Common.{ap, sym, ◌∙◌, add-zero, arith, length-set, set-set}
+use Rattle.std.specs.Prelude.{◌≡◌, refl, List, [], ◌∷◌, ℕ, zero, suc, ◌+◌, ◌*◌, ◌≤◌, ◌<◌, length, get_or, set, drop}
+use Rattle.std.proofs.Common.{ap, ◌∙◌, add-zero, arith, length-set, set-set}
 use Rattle.std.proofs.lemmas.List.{length-replicate, set_comm, set-get_or}
 use Rattle.std.proofs.lemmas.List.Edits.{sets}
 use Rattle.base.specs.Cells.{laid-length}
-use Rattle.flat.specs.Flat.{number, each, levels_at, levels_of, block_of}
+use Rattle.flat.specs.Flat.{levels_at, levels_of, block_of}
 use Rattle.flat.specs.FlatLaws.{each_at_lem, levels-length}
 use Rattle.layflat.specs.Rest.{levels-next, levels-end}
 use Rattle.model.specs.declared.Levels.{Levels}

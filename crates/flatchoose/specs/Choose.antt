@@ -1,10 +1,9 @@
 -- What choosing a palette on lists answers and leaves in the memory lent to it: analysis' answer over the records that the lists of numbers are.
 use Rattle.std.specs.Prelude.{List, [], ◌∷◌, ℕ, ◌*◌, eqb}
 use Rattle.std.proofs.lemmas.List.Edits.{sets}
-use Rattle.analyse.specs.declared.Painted.{Painted}
+use Rattle.analyse.specs.Analyse.{Painted}
 use Rattle.blocks.specs.Laws.{block_with}
-use Rattle.analysis.specs.declared.Analyzed.{Analyzed}
-use Rattle.analysis.specs.Analyze.{few_colors, answer_of}
+use Rattle.analysis.specs.Analyze.{Analyzed, few_colors, answer_of}
 use Rattle.base.specs.Pick.{pick}
 use Rattle.base.specs.Tests.{refusal}
 use Rattle.colors.specs.declared.ColorIndex.{ColorIndex}
@@ -34,6 +33,10 @@ analyzed_laid done l = (
     block = pick (eqb done.refusal 0) (sets l.block 0 (flat_block done.cu)) l.block;
   },
 )
+
+-- the refusal's number, or 0; the counter after the call; the block's list, on a refusal as it was
+abbrev pub block_laid : Analyzed → List ℕ → ℕ × (ColorIndex × List ℕ)
+block_laid done block = (done.refusal, (done.counter, pick (eqb done.refusal 0) (sets block 0 (flat_block done.cu)) block))
 
 -- 13 and the block's list as it was, or 0 and the list with the block made
 abbrev pub found_out : Painted → PaletteConfig → ℕ → ℕ → ℕ → List ℕ → ℕ × List ℕ

@@ -11,18 +11,19 @@ use Rattle.model.specs.declared.PalettePredictor.{PalettePredictor}
 use Rattle.colors.specs.Table.{tab}
 use Rattle.colors.specs.declared.ColorIndex.{ColorIndex}
 use Rattle.tally.specs.Tally.{moved_to}
-use Rattle.analyse.specs.Analyse.{painted_of, analysis_of}
-use Rattle.analyse.specs.declared.Analysed.{Analysed}
-use Rattle.analyse.specs.declared.Painted.{Painted}
+use Rattle.analyse.specs.Analyse.{Analysed, Painted, painted_of, analysis_of}
 use Rattle.analyse.specs.Laws.{painted-kept, painted-moved, kept-refused}
 use Rattle.blocks.specs.Blocks.{entries_of}
 use Rattle.blocks.specs.Laws.{block_with}
-use Rattle.analysis.specs.declared.Analyzed.{Analyzed}
+use Rattle.refusal.specs.declared.Refusal.{Refusal}
+use Rattle.refusal.specs.Refusal.{number_of}
+use Rattle.refusal.specs.Laws.{number_other}
+use Rattle.analysis.specs.Analyze.{Analyzed}
 use Rattle.analysis.specs.Laws.{refused_with, refused-many, few-reused, block_made}
 use Rattle.flat.specs.Flat.{number, each, flat_block}
 use Rattle.flatcounter.specs.Counter.{counter_of, marks_of}
 use Rattle.flatcounter.specs.Back.{counter_back}
-use Rattle.flatchoose.specs.Choose.{Lent, counter_lent, analyzed_laid, found_out, choose_out}
+use Rattle.flatchoose.specs.Choose.{Lent, counter_lent, analyzed_laid, block_laid, found_out, choose_out}
 
 module _ (done : Analyzed) (keys entry stamp block k e s b : List ℕ) (hk : k ≡ sets keys 0 done.counter.keys) (he : e ≡ sets entry 0 done.counter.entry) (hs : s ≡ sets stamp 0 (marks_of done.counter)) where
   laid_done : done.refusal ≡ 0 → b ≡ sets block 0 (flat_block done.cu) → ◌≡◌ {A = ℕ × Lent} (0, record { keys = k; entry = e; stamp = s; block = b }) (analyzed_laid done (record { keys = keys; entry = entry; stamp = stamp; block = block }))
@@ -91,3 +92,13 @@ module _ (xs : List ℕ) (c : PaletteConfig) (size : ℕ) (p : PalettePredictor)
             either (eqb d.answer 0)
             (λ t. rw (e, t) (made-out (eqb-true d.answer 0 t) _ refl))
             (λ f. rw (e, f) (many-out (eqb-false d.answer 0 f)))
+
+-- on a refusal the block's list is as it was
+pub block-refused : (r : Refusal) (k : ColorIndex) (block : List ℕ) → ◌≡◌ {A = ℕ × (ColorIndex × List ℕ)} (number_of r, (k, block)) (block_laid (refused_with (number_of r) k) block)
+block-refused r k block = rw (number_other r)
+
+-- a counter laid beside the block
+pub lent_laid : (done : Analyzed) (l : Lent) (r : ℕ) (k : ColorIndex) (b ks es ss : List ℕ) → ◌≡◌ {A = ℕ × (ColorIndex × List ℕ)} (r, (k, b)) (block_laid done l.block)
+    → ks ≡ sets l.keys 0 k.keys → es ≡ sets l.entry 0 k.entry → ss ≡ sets l.stamp 0 (marks_of k) → ◌≡◌ {A = ℕ × Lent} (r, record { keys = ks; entry = es; stamp = ss; block = b }) (analyzed_laid done l)
+lent_laid done l r k b ks es ss h a d e =
+    rw (a, d, e) (λ i. ((h i).0, record { keys = sets l.keys 0 (h i).1.0.keys; entry = sets l.entry 0 (h i).1.0.entry; stamp = sets l.stamp 0 (marks_of (h i).1.0); block = (h i).1.1 }))

@@ -1,6 +1,6 @@
 -- Lists of any length read and laid, and that a counter laid in lists is read back.
 use Rattle.std.specs.Prelude.{◌≡◌, refl, List, [], ◌∷◌, ℕ, suc, ◌+◌, ◌≤◌, ◌<◌, min, length, drop, get_or, set, replicate}
-use Rattle.std.proofs.Common.{ap, sym, ◌∙◌, ⊎_elim, add-one, arith, ext_get_or}
+use Rattle.std.proofs.Common.{sym, ◌∙◌, ⊎_elim, add-one, arith, ext_get_or}
 use Rattle.std.proofs.lemmas.List.{length-replicate, get_or-replicate}
 use Rattle.std.proofs.Math.ListN.{get_or-eq_default}
 use Rattle.std.proofs.lemmas.List.Edits.{sets}

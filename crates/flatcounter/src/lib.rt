@@ -4,27 +4,17 @@
 ghost use Rattle.std.specs.Prelude.{◌≡◌, ◌∷◌, ◌+◌, ◌≤◌, min, length};
 ghost use Rattle.std.proofs.lemmas.List.Edits.{sets};
 ghost use Rattle.flat.specs.Flat.{number, each};
+ghost use Rattle.flatcounter.specs.Counter.{counter_of, marks_of};
 
-// The lesser of two.
-fn least(a: usize, b: usize) -> usize
-    ensures { result ≡ min a b }
-{
-    if a < b {
-        return a;
-    }
-    b
-}
+use colors::ColorIndex;
 
 // A counter's keys.
 pub fn keys_of(list: &[u64]) -> [u64; 256]
     ensures { result ≡ each 0 256 (number list.now) }
 {
-    let n = least(256, list.len());
     let mut out: [u64; 256] = [0; 256];
-    let mut i: usize = 0;
-    while i < n {
+    for i in 0..list.len().min(256) {
         out[i] = list[i];
-        i += 1;
     }
     out
 }
@@ -33,12 +23,9 @@ pub fn keys_of(list: &[u64]) -> [u64; 256]
 pub fn entries_of(list: &[u16]) -> [u16; 256]
     ensures { result ≡ each 0 256 (number list.now) }
 {
-    let n = least(256, list.len());
     let mut out: [u16; 256] = [0; 256];
-    let mut i: usize = 0;
-    while i < n {
+    for i in 0..list.len().min(256) {
         out[i] = list[i];
-        i += 1;
     }
     out
 }
@@ -47,12 +34,9 @@ pub fn entries_of(list: &[u16]) -> [u16; 256]
 pub fn stamps_of(list: &[u32]) -> [u32; 256]
     ensures { result ≡ each 0 256 (λ i. number list.now (1 + i)) }
 {
-    let n = least(257, list.len());
     let mut out: [u32; 256] = [0; 256];
-    let mut i: usize = 0;
-    while i + 1 < n {
+    for i in 0..list.len().min(257).saturating_sub(1) {
         out[i] = list[1 + i];
-        i += 1;
     }
     out
 }
@@ -61,10 +45,7 @@ pub fn stamps_of(list: &[u32]) -> [u32; 256]
 pub fn generation_of(list: &[u32]) -> u32
     ensures { result ≡ number list.now 0 }
 {
-    if 0 < list.len() {
-        return list[0];
-    }
-    0
+    list.first().copied().unwrap_or(0)
 }
 
 // Keys, as far as the list reaches.
@@ -72,11 +53,8 @@ pub fn lay_keys(xs: &[u64; 256], list: &mut [u64])
     requires { length xs.now ≡ 256 }
     ensures { list.new ≡ sets list.old 0 xs.now }
 {
-    let n = least(256, list.len());
-    let mut i: usize = 0;
-    while i < n {
+    for i in 0..list.len().min(256) {
         list[i] = xs[i];
-        i += 1;
     }
 }
 
@@ -85,11 +63,8 @@ pub fn lay_entries(xs: &[u16; 256], list: &mut [u16])
     requires { length xs.now ≡ 256 }
     ensures { list.new ≡ sets list.old 0 xs.now }
 {
-    let n = least(256, list.len());
-    let mut i: usize = 0;
-    while i < n {
+    for i in 0..list.len().min(256) {
         list[i] = xs[i];
-        i += 1;
     }
 }
 
@@ -98,11 +73,8 @@ fn lay_stamps(xs: &[u32; 256], list: &mut [u32])
     requires { length xs.now ≡ 256 }
     ensures { list.new ≡ sets list.old 1 xs.now }
 {
-    let n = least(257, list.len());
-    let mut i: usize = 0;
-    while i + 1 < n {
+    for i in 0..list.len().min(257).saturating_sub(1) {
         list[1 + i] = xs[i];
-        i += 1;
     }
 }
 
@@ -116,4 +88,28 @@ pub fn lay_marks(generation: u32, stamp: &[u32; 256], list: &mut [u32])
     }
     list[0] = generation;
     lay_stamps(stamp, list);
+}
+
+// A counter of its three lists.
+#[tactic(auto, unfolding(crate::specs::Counter::counter_of))]
+pub fn counter_of(keys: &[u64], entry: &[u16], stamp: &[u32]) -> ColorIndex
+    ensures { result ≡ counter_of keys.now entry.now stamp.now }
+{
+    ColorIndex {
+        keys: keys_of(keys),
+        entry: entries_of(entry),
+        stamp: stamps_of(stamp),
+        generation: generation_of(stamp),
+    }
+}
+
+// A counter in its three lists, as far as they reach.
+pub fn lay_counter(counter: &ColorIndex, keys: &mut [u64], entry: &mut [u16], stamp: &mut [u32])
+    ensures { (keys.new ≡ sets keys.old 0 counter.now.keys)
+        × (entry.new ≡ sets entry.old 0 counter.now.entry)
+        × (stamp.new ≡ sets stamp.old 0 (marks_of counter.now)) }
+{
+    lay_keys(&counter.keys, keys);
+    lay_entries(&counter.entry, entry);
+    lay_marks(counter.generation, &counter.stamp, stamp);
 }

@@ -12,7 +12,6 @@ use Rattle.base.specs.Pick.{lt_or_le}
 use Rattle.h265.specs.Strings.{bit}
 use Rattle.model.specs.Whole.{no_levels}
 use Rattle.model.specs.declared.PaletteConfig.{PaletteConfig}
-use Rattle.model.specs.declared.PaletteCu.{PaletteCu}
 use Rattle.choose.specs.declared.Painting.{Painting}
 use Rattle.blocks.specs.Blocks.{color_of}
 use Rattle.blocks.specs.Laws.{block_with}

@@ -12,24 +12,11 @@ ghost use Rattle.flatmade.specs.Front.{front_of, head_with};
 use choose::Painting;
 use model::PaletteConfig;
 
-// The lesser of two.
-fn least(a: usize, b: usize) -> usize
-    ensures { result ≡ min a b }
-{
-    if a < b {
-        return a;
-    }
-    b
-}
-
 // A number held to 16 bits.
 fn short(x: usize) -> u16
     ensures { result ≡ short x }
 {
-    if x < 65535 {
-        return x as u16;
-    }
-    65535
+    x.min(65535) as u16
 }
 
 // The numbers before the palette, 0 after them.
@@ -45,9 +32,9 @@ fn head(
 {
     let mut out: [u16; 336] = [0; 336];
     out[0] = short(size);
-    out[1] = c.chroma_idc as u16;
-    out[2] = c.bd_luma as u16;
-    out[3] = c.bd_chroma as u16;
+    out[1] = u16::from(c.chroma_idc);
+    out[2] = u16::from(c.bd_luma);
+    out[3] = u16::from(c.bd_chroma);
     out[4] = c.lossless as u16;
     out[5] = short(entries);
     out[6] = short(predictors);
@@ -60,13 +47,11 @@ fn head(
 fn lay_palette(out: &mut [u16; 336], palette: [u64; 64])
     ensures { out.new ≡ sets out.old 16 (colors_of (map color_of palette)) }
 {
-    let mut i: usize = 0;
-    while i < 64 {
+    for i in 0..64 {
         let x = palette[i];
         out[16 + 3 * i] = (x % 65536) as u16;
         out[16 + 3 * i + 1] = (x / 65536 % 65536) as u16;
         out[16 + 3 * i + 2] = (x / 4294967296 % 65536) as u16;
-        i += 1;
     }
 }
 
@@ -74,10 +59,8 @@ fn lay_palette(out: &mut [u16; 336], palette: [u64; 64])
 fn lay_flags(out: &mut [u16; 336], flags: [bool; 128])
     ensures { out.new ≡ sets out.old 208 (map bit flags) }
 {
-    let mut i: usize = 0;
-    while i < 128 {
+    for i in 0..128 {
         out[208 + i] = flags[i] as u16;
-        i += 1;
     }
 }
 
@@ -99,11 +82,8 @@ fn lay_front(xs: &[u16; 336], list: &mut [u16])
     requires { length xs.now ≡ 336 }
     ensures { list.new ≡ sets list.old 0 xs.now }
 {
-    let n = least(336, list.len());
-    let mut i: usize = 0;
-    while i < n {
+    for i in 0..list.len().min(336) {
         list[i] = xs[i];
-        i += 1;
     }
 }
 
@@ -111,11 +91,8 @@ fn lay_front(xs: &[u16; 336], list: &mut [u16])
 fn lay_cells(list: &mut [u16])
     ensures { list.new ≡ sets list.old 336 (replicate 4096 0) }
 {
-    let n = least(4432, list.len());
-    let mut i: usize = 336;
-    while i < n {
+    for i in 336..list.len().min(4432) {
         list[i] = 0;
-        i += 1;
     }
 }
 

@@ -4,7 +4,7 @@ use Rattle.std.proofs.Common.{ap, sym, ◌∙◌, arith, length-take, ext_get_or
 use Rattle.std.proofs.Math.Nat.{min-eq_left}
 use Rattle.std.proofs.Math.ListN.{length-replicate}
 use Rattle.std.proofs.lemmas.List.Edits.{sets, sets-eq}
-use Rattle.base.specs.Cells.{laid, laid-length, laid_in}
+use Rattle.base.specs.Cells.{laid-length, laid_in}
 use Rattle.base.specs.Counted.{read, end}
 use Rattle.h265.specs.Strings.{bit}
 use Rattle.flat.specs.Flat.{number}

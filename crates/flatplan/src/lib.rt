@@ -4,13 +4,14 @@
 // A run has four numbers: 1 where it copies from above, any other where not; the index sent; its further cells; its start.
 #![tactic(auto)]
 
-ghost use Rattle.std.specs.Prelude.{◌≡◌, [], ◌∷◌, ◌+◌, ◌*◌, ◌≤◌, min, length, take, set};
+ghost use Rattle.std.specs.Prelude.{◌≡◌, [], ◌∷◌, ◌+◌, ◌*◌, ◌≤◌, length, take, set};
 ghost use Rattle.std.proofs.lemmas.List.Edits.{sets};
 ghost use Rattle.base.specs.Laid.{Laid};
 ghost use Rattle.h265.specs.Strings.{bit};
 ghost use Rattle.flat.specs.Flat.{number, each};
 ghost use Rattle.flatplan.specs.Flat.{rate_at, pair_at, no_pair, model_of, flat_runs, run_at, runs_of};
 
+use laying::{put, store};
 use model::PaletteRun;
 use rates::{Pair, RateModel};
 
@@ -18,10 +19,7 @@ use rates::{Pair, RateModel};
 fn rate_at(list: &[f32], i: usize) -> f32
     ensures { result ≡ rate_at list.now i }
 {
-    if i < list.len() {
-        return list[i];
-    }
-    0.0
+    list.get(i).copied().unwrap_or(0.0)
 }
 
 // The pair at a place.
@@ -29,9 +27,10 @@ fn pair_at(list: &[f32], p: usize) -> Pair
     requires { p ≤ 18 }
     ensures { result ≡ pair_at list.now p }
 {
-    let bin0 = rate_at(list, p);
-    let bin1 = rate_at(list, p + 1);
-    Pair { bin0, bin1 }
+    Pair {
+        bin0: rate_at(list, p),
+        bin1: rate_at(list, p + 1),
+    }
 }
 
 // The run-prefix pairs.
@@ -42,11 +41,8 @@ fn prefix_of(list: &[f32]) -> [Pair; 8]
         bin0: 0.0,
         bin1: 0.0,
     }; 8];
-    let mut i: usize = 0;
-    while i < 8 {
-        let p = pair_at(list, 2 + 2 * i);
-        out[i] = p;
-        i += 1;
+    for (i, pair) in out.iter_mut().enumerate() {
+        *pair = pair_at(list, 2 + 2 * i);
     }
     out
 }
@@ -55,24 +51,10 @@ fn prefix_of(list: &[f32]) -> [Pair; 8]
 pub fn model_of(list: &[f32]) -> RateModel
     ensures { result ≡ model_of list.now }
 {
-    let run_type = pair_at(list, 0);
-    let run_prefix = prefix_of(list);
     RateModel {
-        run_type,
-        run_prefix,
+        run_type: pair_at(list, 0),
+        run_prefix: prefix_of(list),
     }
-}
-
-// One number, where there is room; the next place.
-fn put(list: &mut [u32], at: usize, x: u32) -> usize
-    requires { at ≤ 65535 }
-    ensures { Laid list.old at (x ∷ []) result list.new }
-{
-    if at < list.len() {
-        list[at] = x;
-        return at + 1;
-    }
-    at + 1
 }
 
 // A run's four numbers; the next place.
@@ -80,53 +62,36 @@ fn put_run(list: &mut [u32], at: usize, run: PaletteRun) -> usize
     requires { at ≤ 65532 }
     ensures { Laid list.old at (bit run.above ∷ run.sent ∷ run.more ∷ run.start ∷ []) result list.new }
 {
-    let a = put(list, at, run.above as u32);
+    let a = put(list, at, u32::from(run.above));
     let b = put(list, a, run.sent);
     let c = put(list, b, run.more);
     put(list, c, run.start)
 }
 
-// The first runs of an array; the next place.
-fn put_runs(list: &mut [u32], runs: [PaletteRun; 1024], count: usize) -> usize
-    requires { count ≤ 1024 }
-    ensures { Laid list.old 0 (flat_runs (take count runs)) result list.new }
+// Runs, one after the other.
+fn put_runs(list: &mut [u32], runs: &[PaletteRun])
+    requires { length runs.now ≤ 1024 }
+    ensures { list.new ≡ sets list.old 0 (flat_runs runs.now) }
 {
     let mut to: usize = 0;
-    let mut i: usize = 0;
-    while i < count {
-        let run = runs[i];
-        to = put_run(list, to, run);
-        i += 1;
+    for run in runs {
+        to = put_run(list, to, *run);
     }
-    to
-}
-
-// A count held to the array's length.
-fn held(count: usize) -> usize
-    ensures { (result ≡ min count 1024) × (result ≤ 1024) }
-{
-    if count < 1024 {
-        return count;
-    }
-    1024
 }
 
 // The first runs of an array, as far as the list reaches.
+// Stays an array with a count: one past the array's end is answered too.
 pub fn lay_runs(runs: [PaletteRun; 1024], count: usize, list: &mut [u32])
     ensures { list.new ≡ sets list.old 0 (flat_runs (take count runs)) }
 {
-    let n = held(count);
-    put_runs(list, runs, n);
+    put_runs(list, &runs[..count.min(1024)]);
 }
 
 // The number at a place, 0 past the end.
 fn number(list: &[u32], i: usize) -> u32
     ensures { result ≡ number list.now i }
 {
-    if i < list.len() {
-        return list[i];
-    }
-    0
+    list.get(i).copied().unwrap_or(0)
 }
 
 // The run at a place.
@@ -134,15 +99,11 @@ fn run_at(list: &[u32], p: usize) -> PaletteRun
     requires { p ≤ 4096 }
     ensures { result ≡ run_at list.now p }
 {
-    let above = number(list, p);
-    let sent = number(list, p + 1);
-    let more = number(list, p + 2);
-    let start = number(list, p + 3);
     PaletteRun {
-        above: above == 1,
-        sent,
-        more,
-        start,
+        above: number(list, p) == 1,
+        sent: number(list, p + 1),
+        more: number(list, p + 2),
+        start: number(list, p + 3),
     }
 }
 
@@ -163,18 +124,14 @@ pub fn run_in(list: &[u32], p: usize) -> PaletteRun
 pub fn runs_of(list: &[u32], count: usize) -> [PaletteRun; 1024]
     ensures { result ≡ runs_of list.now count }
 {
-    let n = held(count);
     let mut out = [PaletteRun {
         above: false,
         sent: 0,
         more: 0,
         start: 0,
     }; 1024];
-    let mut i: usize = 0;
-    while i < n {
-        let run = run_at(list, 4 * i);
-        out[i] = run;
-        i += 1;
+    for i in 0..count.min(1024) {
+        out[i] = run_at(list, 4 * i);
     }
     out
 }
@@ -183,7 +140,5 @@ pub fn runs_of(list: &[u32], count: usize) -> [PaletteRun; 1024]
 pub fn put_count(list: &mut [usize], x: usize)
     ensures { list.new ≡ set list.old 0 x }
 {
-    if 0 < list.len() {
-        list[0] = x;
-    }
+    store(list, 0, x);
 }

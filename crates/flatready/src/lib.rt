@@ -12,16 +12,7 @@ ghost use Rattle.flatready.specs.Ready.{framed_of, level_most, BlockReady, Ready
 ghost use Rattle.flatready.specs.Reach.{Under};
 
 use domain::{depth_in, even_in, most_in, size_in};
-
-// A number held to a byte.
-fn byte(x: u16) -> u8
-    ensures { result ≡ byte x }
-{
-    if x < 255 {
-        return x as u8;
-    }
-    255
-}
+use flat::byte;
 
 // Whether n numbers from a place on are at most m.
 fn at_most(list: &[u16], from: usize, n: usize, m: u16) -> bool
@@ -29,30 +20,17 @@ fn at_most(list: &[u16], from: usize, n: usize, m: u16) -> bool
     ensures { result ≡ up_to n (λ i. leb (number list.now (from + i)) m) }
 {
     let mut ok = true;
-    let mut i: usize = 0;
-    while i < n {
-        let x = list[from + i];
-        ok = ok & (x <= m);
-        i += 1;
+    for x in &list[from..from + n] {
+        ok = ok & (*x <= m);
     }
     ok
-}
-
-// How far a number is over another, 0 where it is not.
-fn over(x: u16, m: u16) -> u16
-    ensures { result ≡ x - m }
-{
-    if m < x {
-        return x - m;
-    }
-    0
 }
 
 // A number that none of four is over m by more than.
 fn over_four(a: u16, b: u16, c: u16, d: u16, m: u16) -> u16
     ensures { (a ≤ m + result) × (b ≤ m + result) × (c ≤ m + result) × (d ≤ m + result) }
 {
-    (over(a, m) | over(b, m)) | (over(c, m) | over(d, m))
+    (a.saturating_sub(m) | b.saturating_sub(m)) | (c.saturating_sub(m) | d.saturating_sub(m))
 }
 
 // A number that none of 4 n numbers from a place on is over m by more than: the bits of all that they are over it, four stretches at a time.
@@ -60,18 +38,15 @@ fn reach(list: &[u16], from: usize, n: usize, m: u16) -> u16
     requires { (from + 4 * n ≤ length list.now) × (from ≤ 4432) × (n ≤ 1108) }
     ensures { Under list.now from (4 * n) m result }
 {
-    let mut r: u16 = 0;
-    let mut i: usize = 0;
-    while i < n {
-        let x = over_four(
+    let mut r = 0;
+    for i in 0..n {
+        r |= over_four(
             list[from + i],
             list[from + n + i],
             list[from + 2 * n + i],
             list[from + 3 * n + i],
             m,
         );
-        r = r | x;
-        i += 1;
     }
     r
 }
@@ -81,10 +56,7 @@ fn fit(list: &[u16], from: usize, quarter: usize, n: usize, m: u16) -> bool
     requires { (from + 4 * quarter ≤ length list.now) × (from ≤ 4432) × (quarter ≤ 1108) × (n ≤ 4 * quarter) }
     ensures { result ≡ up_to n (λ i. leb (number list.now (from + i)) m) }
 {
-    if reach(list, from, quarter, 0) <= m {
-        return true;
-    }
-    at_most(list, from, n, m)
+    reach(list, from, quarter, 0) <= m || at_most(list, from, n, m)
 }
 
 // How many of the first `count` flags of a block are on.
@@ -92,15 +64,13 @@ fn reused(list: &[u16], count: usize) -> usize
     requires { (count ≤ 128) × (336 ≤ length list.now) }
     ensures { (result ≡ trues (take count (block_of list.now).reused)) × (result ≤ 128) }
 {
-    let mut t: u16 = 0;
-    let mut i: usize = 0;
-    while i < count {
-        if list[208 + i] == 1 {
+    let mut t = 0;
+    for flag in &list[208..208 + count] {
+        if *flag == 1 {
             t += 1;
         }
-        i += 1;
     }
-    t as usize
+    t
 }
 
 // The clauses on a block's numbers.
@@ -127,9 +97,10 @@ fn level_most(list: &[u16]) -> u16
     ensures { result ≤ level_most list.now }
 {
     if list[4] == 1 {
-        return most_in(byte(list[2]));
+        most_in(byte(list[2]))
+    } else {
+        32767
     }
-    32767
 }
 
 // Whether the indices of 64 cells from i on are of entries, or else escapes are on and the levels of these cells at most m.
@@ -154,11 +125,8 @@ fn cells_ready(list: &[u16], cells: usize, n: u16) -> bool
     ensures { result ≡ true → up_to cells (cell_holds (block_of list.now)) ≡ true }
 {
     let m = level_most(list);
-    let mut g: usize = 0;
-    while 64 * g < cells {
-        if band_ready(list, 64 * g, n, m) {
-            g += 1;
-        } else {
+    for g in 0..cells.div_ceil(64) {
+        if !band_ready(list, 64 * g, n, m) {
             return false;
         }
     }

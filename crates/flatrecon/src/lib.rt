@@ -11,12 +11,17 @@ ghost use Rattle.flat.specs.Flat.{number, block_of};
 ghost use Rattle.flatready.specs.Ready.{BlockReady};
 ghost use Rattle.sse.specs.Sse.{block_in};
 ghost use Rattle.targets.specs.Laws.{Ready};
+ghost use Rattle.refusal.specs.Refusal.{code_of};
 ghost use Rattle.recon.specs.Recon.{cell_color, luma_after, chroma_after, recon_of};
 ghost use Rattle.flatrecon.specs.Cells.{Indexed, entry_of, value_of};
 
 use flat::byte;
 use levels::Scale;
 use model::{Levels, PaletteConfig, SourceBlock};
+use onto::put_plane;
+use recon::{block_rows, chroma_onto, luma_onto, put_chroma};
+use refusal::Refusal;
+use targets::check_targets;
 
 // Entry k of the palette, as one number.
 fn entry_at(list: &[u16], k: usize) -> u64
@@ -32,12 +37,9 @@ fn entries_in(list: &[u16], n: usize) -> [u64; 64]
     requires { (4432 ≤ length list.now) × (n ≤ 64) }
     ensures { (result ≡ laid (entry_of list.now) (replicate 64 0) 0 n) × (length result ≡ 64) }
 {
-    let mut out: [u64; 64] = [0; 64];
-    let mut k: usize = 0;
-    while k < n {
-        let v = entry_at(list, k);
-        out[k] = v;
-        k += 1;
+    let mut out = [0; 64];
+    for k in 0..n {
+        out[k] = entry_at(list, k);
     }
     out
 }
@@ -47,12 +49,8 @@ fn paint(palette: &[u64; 64], list: &[u16], i: usize, n: usize, out: &mut [u64])
     requires { (4432 ≤ length list.now) × (length palette.now ≡ 64) × (i + n ≤ 1024) × (i + n ≤ length out.old) × Indexed list.now i n 63 }
     ensures { out.new ≡ laid (λ j. get_or palette.now (number list.now (336 + j)) 0) out.old i n }
 {
-    let mut k: usize = 0;
-    while k < n {
-        let j = i + k;
-        let x = list[336 + j] as usize;
-        out[j] = palette[x];
-        k += 1;
+    for j in i..i + n {
+        out[j] = palette[usize::from(list[336 + j])];
     }
 }
 
@@ -62,16 +60,14 @@ fn quiet(list: &[u16], i: usize, p: u16) -> bool
     ensures { result ≡ up_to 16 (λ k. not (eqb (number list.now (336 + (i + k))) p)) }
 {
     let mut ok = true;
-    let mut k: usize = 0;
-    while k < 16 {
-        let x = list[336 + (i + k)];
-        ok = ok & (x != p);
-        k += 1;
+    for x in &list[336 + i..352 + i] {
+        ok = ok & (*x != p);
     }
     ok
 }
 
 // What cell i decodes to: its entry, or where its index is p its levels.
+#[tactic(auto, unfolding(levels::specs::Levels::value_at, flat::specs::Flat::levels_at))]
 fn value(s: Scale, palette: &[u64; 64], list: &[u16], p: u16, i: usize) -> u64
     requires { Fit s × (4432 ≤ length list.now) × (length palette.now ≡ 64) × (i < 1024) }
     ensures { result ≡ value_of s palette.now list.now p i }
@@ -84,9 +80,10 @@ fn value(s: Scale, palette: &[u64; 64], list: &[u16], p: u16, i: usize) -> u64
             cb: list[a + 1],
             cr: list[a + 2],
         };
-        return levels::values_of(s, l);
+        levels::values_of(s, l)
+    } else {
+        levels::entry(palette, usize::from(x))
     }
-    levels::entry(palette, x as usize)
 }
 
 // What n cells from cell i on decode to.
@@ -94,11 +91,8 @@ fn decode(s: Scale, palette: &[u64; 64], list: &[u16], p: u16, i: usize, n: usiz
     requires { Fit s × (4432 ≤ length list.now) × (length palette.now ≡ 64) × (i + n ≤ 1024) × (i + n ≤ length out.old) }
     ensures { out.new ≡ laid (value_of s palette.now list.now p) out.old i n }
 {
-    let mut k: usize = 0;
-    while k < n {
-        let v = value(s, palette, list, p, i + k);
-        out[i + k] = v;
-        k += 1;
+    for j in i..i + n {
+        out[j] = value(s, palette, list, p, j);
     }
 }
 
@@ -109,19 +103,9 @@ fn stretch(s: Scale, palette: &[u64; 64], list: &[u16], p: u16, i: usize, n: usi
 {
     if quiet(list, i, p) {
         paint(palette, list, i, n, out);
-        return;
+    } else {
+        decode(s, palette, list, p, i, n, out);
     }
-    decode(s, palette, list, p, i, n, out);
-}
-
-// The lesser of two.
-fn least(a: usize, b: usize) -> usize
-    ensures { result ≡ min a b }
-{
-    if a < b {
-        return a;
-    }
-    b
 }
 
 // What the first m cells decode to, 16 at a time.
@@ -129,11 +113,10 @@ fn values(s: Scale, palette: &[u64; 64], list: &[u16], p: u16, m: usize, out: &m
     requires { Fit s × (4432 ≤ length list.now) × (length palette.now ≡ 64) × (m ≤ 1024) × (m ≤ length out.old) × (p ≤ 64) × Indexed list.now 0 m p }
     ensures { out.new ≡ laid (value_of s palette.now list.now p) out.old 0 m }
 {
-    let mut g: usize = 0;
-    while 16 * g < m {
-        let n = least(16, m - 16 * g);
-        stretch(s, palette, list, p, 16 * g, n, out);
-        g += 1;
+    for g in 0..m.div_ceil(16) {
+        let i = 16 * g;
+        let n = (m - i).min(16);
+        stretch(s, palette, list, p, i, n, out);
     }
 }
 
@@ -143,13 +126,13 @@ fn cell_colors(c: PaletteConfig, list: &[u16], m: usize, out: &mut [u64])
     ensures { out.new ≡ laid (cell_color c (block_of list.now)) out.old 0 m }
 {
     let p = list[5];
-    let palette = entries_in(list, p as usize);
+    let palette = entries_in(list, usize::from(p));
     if list[8] == 1 {
         let s = levels::scale_of(c);
         values(s, &palette, list, p, m, out);
-        return;
+    } else {
+        paint(&palette, list, 0, m, out);
     }
-    paint(&palette, list, 0, m, out);
 }
 
 // The block onto the planes; only cells of rows that lie in them are decoded, onto a list lent for them.
@@ -169,16 +152,16 @@ fn put_list(
         × (cb.new ≡ chroma_after cs c g (block_of block.now) 1 cb.old)
         × (cr.new ≡ chroma_after cs c g (block_of block.now) 2 cr.old) }
 {
-    let size = block[0] as usize;
+    let size = usize::from(block[0]);
     let turned = block[9] == 1;
     let format = byte(block[1]);
-    let l = recon::luma_onto(ys, g, size, turned);
-    let b = recon::chroma_onto(cs, format, g, size, turned, 1);
-    let r = recon::chroma_onto(cs, format, g, size, turned, 2);
-    let n = recon::block_rows(format, l, b);
+    let l = luma_onto(ys, g, size, turned);
+    let b = chroma_onto(cs, format, g, size, turned, 1);
+    let r = chroma_onto(cs, format, g, size, turned, 2);
+    let n = block_rows(format, l, b);
     cell_colors(c, block, n * size, cells);
-    onto::put_plane(luma, cells, l);
-    recon::put_chroma(format, cb, cr, cells, b, r);
+    put_plane(luma, cells, l);
+    put_chroma(format, cb, cr, cells, b, r);
 }
 
 // The same with no more cells cleared than blocks of 8, 16 or 32 have.
@@ -197,19 +180,11 @@ fn put_block(
         × (cb.new ≡ chroma_after cs c g (block_of block.now) 1 cb.old)
         × (cr.new ≡ chroma_after cs c g (block_of block.now) 2 cr.old) }
 {
-    let size = block[0];
-    if size <= 8 {
-        let mut few: [u64; 64] = [0; 64];
-        put_list(luma, cb, cr, ys, cs, c, g, block, &mut few);
-        return;
+    match block[0] {
+        0..=8 => put_list(luma, cb, cr, ys, cs, c, g, block, &mut [0; 64]),
+        9..=16 => put_list(luma, cb, cr, ys, cs, c, g, block, &mut [0; 256]),
+        _ => put_list(luma, cb, cr, ys, cs, c, g, block, &mut [0; 1024]),
     }
-    if size <= 16 {
-        let mut some: [u64; 256] = [0; 256];
-        put_list(luma, cb, cr, ys, cs, c, g, block, &mut some);
-        return;
-    }
-    let mut all: [u64; 1024] = [0; 1024];
-    put_list(luma, cb, cr, ys, cs, c, g, block, &mut all);
 }
 
 // Whether a block's format, depths, lossless flag and size are the call's.
@@ -225,10 +200,10 @@ fn matches_call(c: PaletteConfig, g: SourceBlock, block: &[u16]) -> bool
         & (luma == c.bd_luma)
         & (chroma == c.bd_chroma)
         & (lossless == c.lossless)
-        & (block[0] as usize == g.size)
+        & (usize::from(block[0]) == g.size)
 }
 
-// A refusal's number, or 0 and the block on the planes; ys and cs are their strides.
+// The block on the planes, or a refusal that leaves them; ys and cs are their strides.
 pub fn reconstruct_list(
     luma: &mut [u16],
     cb: &mut [u16],
@@ -238,17 +213,14 @@ pub fn reconstruct_list(
     c: PaletteConfig,
     g: SourceBlock,
     block: &[u16],
-) -> u8
+) -> Result<(), Refusal>
     requires { BlockReady block.now }
-    ensures { (result, luma.new, cb.new, cr.new) ≡ recon_of luma.old cb.old cr.old ys cs c g (block_of block.now) }
+    ensures { (code_of result, luma.new, cb.new, cr.new) ≡ recon_of luma.old cb.old cr.old ys cs c g (block_of block.now) }
 {
-    let k = targets::target_refusal(c, g, ys, cs, luma.len(), cb.len(), cr.len());
-    if k != 0 {
-        return k;
+    check_targets(c, g, ys, cs, luma.len(), cb.len(), cr.len())?;
+    if !matches_call(c, g, block) {
+        return Err(Refusal::Block);
     }
-    if matches_call(c, g, block) {
-        put_block(luma, cb, cr, ys, cs, c, g, block);
-        return 0;
-    }
-    7
+    put_block(luma, cb, cr, ys, cs, c, g, block);
+    Ok(())
 }

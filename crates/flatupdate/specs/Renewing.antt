@@ -1,11 +1,11 @@
 -- A predictor that is renewed on its numbers, three to an entry.
 use Rattle.std.specs.Prelude.{◌≡◌, Bool, true, set, replicate}
 use Rattle.std.proofs.Math.Path.{refl, ap, sym}
-use Rattle.std.proofs.Common.{◌∙◌, ⊎_elim, add-one, length-set, length-take, drop_of_length-le, drop-cons, take-take, take_all, take_at, length-take-le, get_or-take, get_or-drop}
+use Rattle.std.proofs.Common.{◌∙◌, ⊎_elim, length-set, length-take, drop-cons, take-take, take_all, take_at, length-take-le, get_or-take}
 use Rattle.std.proofs.Math.Bool.{false}
 use mathlib.Core.List.{List, [], ◌∷◌, ◌++◌, append_assoc, append-nil}
 use Prim.Native.Nat.{ℕ, zero, suc, ◌+◌, ◌*◌, ◌-◌, ◌≤◌, ◌<◌, min}
-use Rattle.std.proofs.Math.Nat.{min-eq_left, min-eq_right, min-le_left, min-le_right}
+use Rattle.std.proofs.Math.Nat.{min-eq_left, min-eq_right}
 use native.Mathlib.Omega.{arith}
 use borrow.Author.Tests.{eq-eqb, eqb-true, ne_eqb}
 use Rattle.std.proofs.Math.Dec.{eqb}
@@ -23,7 +23,7 @@ use Rattle.flatready.specs.Ready.{Ready}
 use Rattle.model.specs.declared.Color.{Color}
 use Rattle.model.specs.declared.PalettePredictor.{PalettePredictor}
 use Rattle.model.specs.Domain.{no_color}
-use Rattle.predictor.specs.Update.{padded, renewed_of, update_of}
+use Rattle.predictor.specs.Update.{padded, renewed_of}
 
 -- the predictor after a block, of lists that are whole and refused nothing
 abbrev pub after_of : List ℕ → List ℕ → ℕ → PalettePredictor
@@ -186,32 +186,6 @@ two-long l i j x y = length-set (set l i x) j y ∙ length-set l i x
 
 pub three-long : (l : List ℕ) (i j k x y z : ℕ) → length (set (set (set l i x) j y) k z) ≡ length l
 three-long l i j k x y z = length-set (set (set l i x) j y) k z ∙ two-long l i j x y
-
-module _ (l s : List ℕ) (to from n : ℕ) where
-  pub copy_start : sets l (to + 0) (drop 0 (take n (drop from s))) ≡ sets l to (take n (drop from s))
-  copy_start = let e : to + 0 ≡ to = omega arith in rw e
-
-  pub copy_next : (i : ℕ) → i < n → from + n ≤ length s → sets (set l (to + i) (number s (from + i))) (to + (i + 1)) (drop (i + 1) (take n (drop from s))) ≡ sets l (to + i) (drop i (take n (drop from s)))
-  copy_next i h m =
-      let xs = take n (drop from s) in
-      let t : length xs ≡ n = length-take-le n (drop from s) (rw length-drop (omega arith)) in
-      let g : get_or xs i 0 ≡ number s (from + i) = get_or-take n (drop from s) i 0 h ∙ get_or-drop from s i 0 in
-      let e : to + (i + 1) ≡ suc (to + i) = omega arith in
-      rw (e, add-one i, ← g, drop-cons xs i 0 (omega arith))
-
-  pub copy_end : (i : ℕ) → n ≤ i → sets l (to + i) (drop i (take n (drop from s))) ≡ l
-  copy_end i h =
-      let t : length (take n (drop from s)) ≤ i = rw length-take (omega arith) in
-      rw (drop_of_length-le (take n (drop from s)) {i = i} t)
-
-pub clear_next : (l : List ℕ) (i : ℕ) → i < 384 → sets (set l (1 + i) 0) (1 + (i + 1)) (replicate (384 - (i + 1)) 0) ≡ sets l (1 + i) (replicate (384 - i) 0)
-clear_next l i h =
-    let e : 1 + (i + 1) ≡ suc (1 + i) = omega arith in
-    let k : 384 - i ≡ suc (384 - (i + 1)) = omega arith in
-    rw (e, k)
-
-pub clear_end : (l : List ℕ) (i : ℕ) → 384 ≤ i → sets l (1 + i) (replicate (384 - i) 0) ≡ l
-clear_end l i h = let e : 384 - i ≡ 0 = omega arith in rw e
 
 -- ---- the old entries that have flags
 

@@ -1,32 +1,18 @@
 // The predictor's update on the list of numbers that crate flat lays it out as, of a call in order.
 #![tactic(auto)]
 
-ghost use Rattle.std.specs.Prelude.{◌≡◌, ◌+◌, ◌*◌, ◌-◌, ◌≤◌, ◌<◌, min, length, take, drop, set, replicate};
+ghost use Rattle.std.specs.Prelude.{◌≡◌, ◌+◌, ◌*◌, ◌-◌, ◌≤◌, ◌<◌, length, take, drop, set, replicate};
 ghost use Rattle.std.proofs.lemmas.List.Edits.{sets};
 ghost use Rattle.flat.specs.Flat.{flat_predictor};
 ghost use Rattle.flatready.specs.Ready.{Ready};
 ghost use Rattle.flatupdate.specs.Renewing.{Kept, Stepped, Walked, after_of};
-
-// The smaller of two numbers.
-fn least(a: usize, b: usize) -> usize
-    ensures { result ≡ min a b }
-{
-    if a < b {
-        return a;
-    }
-    b
-}
 
 // n numbers of a list from a place on, laid on another.
 fn copy(list: &mut [u16], to: usize, source: &[u16], from: usize, n: usize)
     requires { (to + n ≤ length list.old) × (from + n ≤ length source.now) × (to ≤ 385) × (from ≤ 4432) × (n ≤ 384) }
     ensures { list.new ≡ sets list.old to (take n (drop from source.now)) }
 {
-    let mut i: usize = 0;
-    while i < n {
-        list[to + i] = source[from + i];
-        i += 1;
-    }
+    list[to..to + n].copy_from_slice(&source[from..from + n]);
 }
 
 // Old entry j laid as entry k where its flag is off; and how many entries stand then.
@@ -67,7 +53,8 @@ fn keep(
     ensures { Kept list.old old.now block.now first flags limit result list.new }
 {
     let mut k = first;
-    let mut j: usize = 0;
+    let mut j = 0;
+    // Stays a while: a step passes four flags or one.
     while j < flags {
         if limit <= k {
             return k;
@@ -89,11 +76,7 @@ fn finish(list: &mut [u16], size: usize)
     ensures { list.new ≡ sets (set list.old 0 size) (1 + 3 * size) (replicate (384 - 3 * size) 0) }
 {
     list[0] = size as u16;
-    let mut i: usize = 3 * size;
-    while i < 384 {
-        list[1 + i] = 0;
-        i += 1;
-    }
+    list[1 + 3 * size..385].fill(0);
 }
 
 // The palette, then the old entries that were not reused, up to the limit: those that have flags, then the rest of them.
@@ -102,13 +85,13 @@ pub fn renew(list: &mut [u16], block: &[u16], limit: usize)
     ensures { list.new ≡ sets list.old 0 (flat_predictor (after_of list.old block.now limit)) }
 {
     let size = list[0] as usize;
-    let mut old: [u16; 384] = [0; 384];
+    let mut old = [0; 384];
     copy(&mut old, 0, list, 1, 384);
-    let first = least(block[5] as usize, limit);
+    let first = (block[5] as usize).min(limit);
     copy(list, 1, block, 16, 3 * first);
-    let flags = least(block[6] as usize, size);
+    let flags = (block[6] as usize).min(size);
     let k = keep(list, &old, block, first, flags, limit);
-    let more = least(size - flags, limit - k);
+    let more = (size - flags).min(limit - k);
     copy(list, 1 + 3 * k, &old, 3 * flags, 3 * more);
     finish(list, k + more);
 }

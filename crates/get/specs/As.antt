@@ -1,13 +1,10 @@
--- The code's places as the definitions' answers.
-use Rattle.base.specs.Answer.{Answer}
+-- A reader's answer as the definitions': what was read and the place after it, or a refusal's number and its place.
+use Rattle.std.specs.Prelude.{ℕ, Result, Ok, Err}
+use Rattle.base.specs.Answer.{Answer, Value}
 use Rattle.base.specs.Answer as A
-use Rattle.get.specs.declared.Next.{Next}
-use Rattle.get.specs.declared.Next.TheVariants as N
+use Rattle.refusal.specs.Refusal.{number_of}
+use Rattle.refusal.specs.declared.Refused.{Refused}
 
--- what was read beside a place
-abbrev pub placed : {X : Type 0} → Next → X → Answer X
-placed (N.At q) x = A.Value x q
-placed (N.Refused k q) x = A.Refused k q
-
-abbrev pub as_next : Next → Answer (Unit {0})
-as_next n = placed n tt
+abbrev pub answer_of : {X : Type 0} → Result X Refused → ℕ → Answer X
+answer_of (Ok x) q = Value x q
+answer_of (Err r) q = A.Refused (number_of r.refusal) r.place

@@ -1,47 +1,51 @@
-// Readers of one bin and of the QP marker from a list of bins.
+// A reader of bins from a list, one after another, and of the QP marker.
 #![tactic(auto)]
 
 ghost use Rattle.std.specs.Prelude.{◌≡◌};
 ghost use Rattle.h265.specs.Parse.{bin_at, marker_at};
-ghost use Rattle.bins.specs.As.{as_bool};
-ghost use Rattle.get.specs.As.{as_next};
+ghost use Rattle.get.specs.As.{answer_of};
 
-use bins::Bin;
+use refusal::{Refusal, Refused};
 
-// The place after what was read, or a refusal's number and place.
-#[derive(Clone, Copy)]
-pub enum Next {
-    At(usize),
-    Refused(u8, usize),
+// A list of bins, and the place of the next one to read.
+#[derive(Drop)]
+pub struct BinReader<'a> {
+    pub list: &'a [u8],
+    pub at: usize,
 }
 
-// One bin of class `class`.
-pub fn bin_at(list: &[u8], at: usize, class: u8) -> Bin
-    ensures { as_bool result ≡ bin_at class list.now at }
-{
-    if at < list.len() {
-        let b = list[at] as u32;
-        let off = class as u32 * 2;
-        if b == off + 1 {
-            return Bin::Is(true, at + 1);
-        }
-        if b == off {
-            return Bin::Is(false, at + 1);
-        }
-        return Bin::Refused(11, at);
+impl<'a> BinReader<'a> {
+    // One bin of class `class`.
+    #[tactic(auto, unfolding(h265::specs::Parse::bin_at))]
+    pub fn bin(&mut self, class: u8) -> Result<bool, Refused>
+        ensures value { answer_of result self.new.at ≡ bin_at class self.old.list.now self.old.at }
+        ensures list { self.new.list ≡ self.old.list }
+    {
+        let Some(&byte) = self.list.get(self.at) else {
+            return Err(Refusal::BinsEnd.at(self.at));
+        };
+        let one = match u32::from(byte).checked_sub(u32::from(class) * 2) {
+            Some(0) => false,
+            Some(1) => true,
+            _ => return Err(Refusal::BinClass.at(self.at)),
+        };
+        self.at += 1;
+        Ok(one)
     }
-    Bin::Refused(10, at)
-}
 
-// The QP marker.
-pub fn marker_at(list: &[u8], at: usize) -> Next
-    ensures { as_next result ≡ marker_at list.now at }
-{
-    if at < list.len() {
-        if list[at] == 22 {
-            return Next::At(at + 1);
+    // The QP marker.
+    #[tactic(auto, unfolding(h265::specs::Parse::marker_at))]
+    pub fn marker(&mut self) -> Result<(), Refused>
+        ensures value { answer_of result self.new.at ≡ marker_at self.old.list.now self.old.at }
+        ensures list { self.new.list ≡ self.old.list }
+    {
+        match self.list.get(self.at) {
+            Some(22) => {
+                self.at += 1;
+                Ok(())
+            }
+            Some(_) => Err(Refusal::BinClass.at(self.at)),
+            None => Err(Refusal::BinsEnd.at(self.at)),
         }
-        return Next::Refused(11, at);
     }
-    Next::Refused(10, at)
 }

@@ -1,62 +1,40 @@
-// Readers of fixed-length values and of truncated binary from a list of bins.
+// Readers of fixed-length values and of truncated binary.
 #![tactic(auto)]
 
-ghost use Rattle.std.specs.Prelude.{◌≡◌, ◌+◌, ◌*◌, ◌≤◌, ◌<◌};
+ghost use Rattle.std.specs.Prelude.{◌≡◌, ◌*◌, ◌^◌, ◌≤◌, ◌<◌, IfOk};
 ghost use Rattle.h265.specs.Parse.{bits_at, tb_at};
-ghost use Rattle.h265.specs.Strings.{bit};
-ghost use Rattle.bins.specs.As.{as_number};
+ghost use Rattle.get.specs.As.{answer_of};
 
-use bins::{Bin, Number, flog, pow2};
-use get::bin_at;
-
-// v with one bit more.
-fn double_and(v: u32, b: bool) -> u32
-    requires { v < 2147483648 }
-    ensures { result ≡ v * 2 + bit b }
-{
-    if b { v * 2 + 1 } else { v * 2 }
-}
+use bins::{flog, pow2};
+use get::BinReader;
+use refusal::Refused;
 
 // A value of n bits, high bit first.
-pub fn bits_at(list: &[u8], at: usize, n: u32) -> Number
+pub fn bits_at(reader: &mut BinReader<'_>, n: u32) -> Result<u32, Refused>
     requires { n ≤ 32 }
-    ensures { as_number result ≡ bits_at n list.now at }
+    ensures value { answer_of result reader.new.at ≡ bits_at n reader.old.list.now reader.old.at }
+    ensures list { reader.new.list ≡ reader.old.list }
+    ensures small { IfOk result (λ v. v < 2 ^ n) }
 {
-    let mut v: u32 = 0;
-    let mut p = at;
-    let mut i: u32 = 0;
-    while i < n {
-        match bin_at(list, p, 0) {
-            Bin::Refused(no, q) => {
-                return Number::Refused(no, q);
-            }
-            Bin::Is(b, q) => {
-                v = double_and(v, b);
-                p = q;
-                i += 1;
-            }
-        }
+    let mut value = 0;
+    for _ in 0..n {
+        value = value * 2 + u32::from(reader.bin(0)?);
     }
-    Number::Is(v, p)
+    Ok(value)
 }
 
 // Truncated binary over n values.
-pub fn tb_at(list: &[u8], at: usize, n: u32) -> Number
+#[tactic(auto, using(crate::proofs::Truncated::fits), unfolding(h265::specs::Parse::tb_at))]
+pub fn tb_at(reader: &mut BinReader<'_>, n: u32) -> Result<u32, Refused>
     requires { (1 ≤ n) × (n < 1073741824) }
-    ensures { as_number result ≡ tb_at n list.now at }
+    ensures value { answer_of result reader.new.at ≡ tb_at n reader.old.list.now reader.old.at }
+    ensures list { reader.new.list ≡ reader.old.list }
 {
     let k = flog(n);
-    let s = pow2(k + 1) - n;
-    match bits_at(list, at, k) {
-        Number::Refused(no, q) => Number::Refused(no, q),
-        Number::Is(x, q) => {
-            if x < s {
-                return Number::Is(x, q);
-            }
-            match bits_at(list, q, 1) {
-                Number::Refused(no, t) => Number::Refused(no, t),
-                Number::Is(b, t) => Number::Is(x * 2 + b - s, t),
-            }
-        }
+    let short = pow2(k + 1) - n;
+    let value = bits_at(reader, k)?;
+    if value < short {
+        return Ok(value);
     }
+    Ok(value * 2 + bits_at(reader, 1)? - short)
 }

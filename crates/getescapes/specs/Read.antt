@@ -1,31 +1,32 @@
 -- The reader's levels in the code's numbers, and that they are the block's.
-use Rattle.std.specs.Prelude.{◌≡◌, refl, Bool, true, false, ◌&&◌, List, [], ◌∷◌, ℕ, zero, suc, ◌+◌, ◌-◌, ◌^◌, ◌≤◌, ◌<◌, eqb, length, take, drop, get_or}
-use Rattle.std.proofs.Common.{ap, sym, ◌∙◌, arith, pow_mono, pow_pos}
+use Rattle.std.specs.Prelude.{◌≡◌, refl, Bool, true, false, ◌&&◌, List, [], ◌∷◌, ℕ, ◌+◌, ◌≤◌, ◌<◌, eqb, length, take, drop, get_or, Result, Ok, Err}
+use Rattle.std.proofs.Common.{arith, pow_mono}
 use Rattle.std.proofs.Math.Numerals.{add-one}
-use Rattle.base.specs.Answer.{Answer, Value, Refused, onward, same-value}
+use Rattle.base.specs.Answer.{Answer, Value, onward, same-value}
 use Rattle.base.specs.Codes.{each_at}
 use Rattle.base.specs.Counted as C
-use Rattle.base.specs.Pick.{pick, either}
+use Rattle.base.specs.Pick.{pick}
 use Rattle.due.specs.Due.{due_at}
-use Rattle.get.specs.As.{placed}
-use Rattle.get.specs.declared.Next.{Next}
-use Rattle.get.specs.declared.Next.TheVariants as N
+use Rattle.get.specs.As.{answer_of}
+use Rattle.refusal.specs.declared.Refused.{Refused as Refusal}
 use Rattle.h265.specs.BitLaws.{bits_code}
 use Rattle.h265.specs.EgkLaws.{egk_code, held_code}
-use Rattle.h265.specs.Parse.{bits_at, egk_at, held}
+use Rattle.h265.specs.Parse.{egk_at}
 use Rattle.h265.specs.Strings.{egk}
-use Rattle.syntax.specs.Block.{Call, Palette, Levels, colours, chroma_due, chroma_depth, dues, level_at, luma_dues, chroma_dues, levels_at}
-use Rattle.getescapes.specs.declared.ColumnRead.{ColumnRead}
-use Rattle.getescapes.specs.declared.LevelsRead.{LevelsRead}
+use Rattle.syntax.specs.Block.{Call, Palette, Levels, colours, chroma_due, chroma_depth, dues, level_at, levels_at}
+use Rattle.getescapes.specs.declared.Columns.{Columns}
 
-abbrev pub as_column : ℕ → ColumnRead → Answer (List ℕ)
-as_column n r = placed r.next (take n r.values)
+-- the first n levels of a component, and of all
+abbrev pub as_column : ℕ → Result (List ℕ) Refusal → ℕ → Answer (List ℕ)
+as_column n (Ok values) q = Value (take n values) q
+as_column n (Err r) q = answer_of (Err r) q
 
 abbrev pub levels : List ℕ → List ℕ → List ℕ → Levels
 levels ys us vs = record { y = ys; cb = us; cr = vs }
 
-abbrev pub as_levels : ℕ → LevelsRead → Answer Levels
-as_levels n r = placed r.next (levels (take n r.y) (take n r.cb) (take n r.cr))
+abbrev pub as_levels : ℕ → Result Columns Refusal → ℕ → Answer Levels
+as_levels n (Ok r) q = Value (levels (take n r.y) (take n r.cb) (take n r.cr)) q
+as_levels n (Err r) q = answer_of (Err r) q
 
 -- whether component k has a level at cell i, where the block has escapes
 unfoldable pub due_of : Bool → ℕ → ℕ → Bool → ℕ → ℕ → Bool
@@ -42,23 +43,6 @@ all_at escape format size turned lossless luma chroma e cells l p =
     onward (each_at (level_at lossless luma) (dues (due_of escape format size turned 0) e 0 cells) l p) (λ ys q.
     onward (each_at (level_at lossless (pick (eqb format 0) 0 chroma)) (dues (due_of escape format size turned 1) e 0 cells) l q) (λ us r.
     third_at escape format size turned lossless (pick (eqb format 0) 0 chroma) e cells ys us l r))
-
-pub third-on : (g : Next) (ys us vs : List ℕ) → placed g (levels ys us vs) ≡ onward (placed g vs) (λ x t. Value (levels ys us x) t)
-third-on (N.At q) ys us vs = refl
-third-on (N.Refused k q) ys us vs = refl
-
-module _ (escape : Bool) (format size : ℕ) (turned lossless : Bool) (luma chroma d e : ℕ) (cells l : List ℕ) (p : ℕ) where
-  pub first-refused : (k q : ℕ) → each_at (level_at lossless luma) (dues (due_of escape format size turned 0) e 0 cells) l p ≡ Refused k q → Refused k q ≡ all_at escape format size turned lossless luma chroma e cells l p
-  unfolding all_at
-  first-refused k q h = rw h
-
-  pub second-refused : (ys : List ℕ) (q k r : ℕ) → d ≡ pick (eqb format 0) 0 chroma → each_at (level_at lossless luma) (dues (due_of escape format size turned 0) e 0 cells) l p ≡ Value ys q → each_at (level_at lossless d) (dues (due_of escape format size turned 1) e 0 cells) l q ≡ Refused k r → Refused k r ≡ all_at escape format size turned lossless luma chroma e cells l p
-  unfolding all_at
-  second-refused ys q k r z h g = rw (h, ← z, g)
-
-  pub all-third : (ys : List ℕ) (q : ℕ) (us : List ℕ) (r : ℕ) → d ≡ pick (eqb format 0) 0 chroma → each_at (level_at lossless luma) (dues (due_of escape format size turned 0) e 0 cells) l p ≡ Value ys q → each_at (level_at lossless d) (dues (due_of escape format size turned 1) e 0 cells) l q ≡ Value us r → third_at escape format size turned lossless d e cells ys us l r ≡ all_at escape format size turned lossless luma chroma e cells l p
-  unfolding all_at
-  all-third ys q us r z h g = rw (h, ← z, g)
 
 -- ---- one turn
 

@@ -1,207 +1,109 @@
-// The reader of the escape levels from a list of bins, component by component.
+// The reader of the escape levels, component by component.
 #![tactic(auto)]
 
-ghost use Rattle.std.specs.Prelude.{◌≡◌, false, ◌≤◌, ◌<◌, take};
+ghost use Rattle.std.specs.Prelude.{◌≡◌, ◌&&◌, false, ◌^◌, ◌≤◌, ◌<◌, eqb, length, IfOk};
 ghost use Rattle.base.specs.Codes.{each_at};
 ghost use Rattle.base.specs.Pick.{pick};
-ghost use Rattle.bins.specs.As.{as_number};
 ghost use Rattle.due.specs.Due.{due_at};
-ghost use Rattle.get.specs.declared.Next.TheVariants as N;
+ghost use Rattle.get.specs.As.{answer_of};
 ghost use Rattle.h265.specs.Parse.{bits_at, egk_at, held};
 ghost use Rattle.syntax.specs.Block.{dues, level_at};
-ghost use Rattle.getescapes.specs.Read.{due_of, as_column, as_levels, third_at, all_at};
+ghost use Rattle.getescapes.specs.Read.{due_of, as_column, as_levels, all_at};
 
-use bins::Number;
 use due::{chroma_depth, due_at};
-use get::Next;
+use get::BinReader;
 use getbits::bits_at;
 use getgolomb::held_egk_at;
+use refusal::Refused;
 
-// The place after a component's levels, or a refusal; and the levels.
+// The cells of a block, as its levels go by them: index `e` marks an escape where there are escapes.
 #[derive(Clone, Copy)]
-pub struct ColumnRead {
-    pub next: Next,
-    pub values: [u16; 1024],
+pub struct Cells<'a> {
+    pub indices: &'a [u8],
+    pub e: u8,
+    pub escape: bool,
+    pub format: u8,
+    pub size: usize,
+    pub turned: bool,
+    pub lossless: bool,
 }
 
-// The place after the levels, or a refusal; and the levels of each component.
+// The levels of each component.
 #[derive(Clone, Copy)]
-pub struct LevelsRead {
-    pub next: Next,
+pub struct Columns {
     pub y: [u16; 1024],
     pub cb: [u16; 1024],
     pub cr: [u16; 1024],
 }
 
 // A level: fixed length where lossless, else Exp-Golomb of order 3 up to 32767.
-fn level_at(list: &[u8], at: usize, lossless: bool, depth: u32) -> Number
+fn level_at(reader: &mut BinReader<'_>, lossless: bool, depth: u32) -> Result<u32, Refused>
     requires { depth ≤ 16 }
-    ensures { as_number result ≡ pick lossless (bits_at depth list.now at) (held at 32767 (egk_at 3 list.now at)) }
+    ensures value { answer_of result reader.new.at ≡ pick lossless (bits_at depth reader.old.list.now reader.old.at) (held reader.old.at 32767 (egk_at 3 reader.old.list.now reader.old.at)) }
+    ensures list { reader.new.list ≡ reader.old.list }
 {
     if lossless {
-        return bits_at(list, at, depth);
+        bits_at(reader, depth)
+    } else {
+        held_egk_at(reader, 3, 32767)
     }
-    held_egk_at(list, at, 3, 32767)
 }
 
-// The level of component k at cell i; 0 where none is sent.
+// The level of component k at cell i, which has index `index`; 0 where none is sent.
+#[tactic(auto, unfolding(syntax::specs::Block::level_at))]
 fn cell_at(
-    list: &[u8],
-    at: usize,
-    here: bool,
+    reader: &mut BinReader<'_>,
+    cells: &Cells<'_>,
     k: u8,
-    format: u8,
-    size: usize,
-    turned: bool,
     i: usize,
-    lossless: bool,
+    index: u8,
     depth: u32,
-) -> Number
-    requires { (1 ≤ size) × (depth ≤ 16) }
-    ensures { as_number result ≡ level_at lossless depth (pick here (due_at format size turned k i) false) list.now at }
+) -> Result<u32, Refused>
+    requires { (1 ≤ cells.now.size) × (depth ≤ 16) }
+    ensures value { answer_of result reader.new.at ≡ level_at cells.now.lossless depth (pick (eqb index cells.now.e && cells.now.escape) (due_at cells.now.format cells.now.size cells.now.turned k i) false) reader.old.list.now reader.old.at }
+    ensures list { reader.new.list ≡ reader.old.list }
 {
-    if here {
-        if due_at(k, format, size, turned, i) {
-            return level_at(list, at, lossless, depth);
-        }
-        return Number::Is(0, at);
+    let here = index == cells.e && cells.escape;
+    if here && due_at(k, cells.format, cells.size, cells.turned, i) {
+        level_at(reader, cells.lossless, depth)
+    } else {
+        Ok(0)
     }
-    Number::Is(0, at)
 }
 
-// A number below 65536 in 16 bits.
-fn narrow(v: u32) -> u16
-    requires { v < 65536 }
-    ensures { result ≡ v }
-{
-    v as u16
-}
-
-// The levels of component k at the first n cells; index e marks an escape.
+// The levels of component k at the cells.
 fn column_at(
-    list: &[u8],
-    at: usize,
-    indices: [u8; 1024],
-    n: usize,
-    e: u8,
-    escape: bool,
+    reader: &mut BinReader<'_>,
+    cells: &Cells<'_>,
     k: u8,
-    format: u8,
-    size: usize,
-    turned: bool,
-    lossless: bool,
     depth: u32,
-) -> ColumnRead
-    requires { (1 ≤ size) × (n ≤ 1024) × (depth ≤ 16) }
-    ensures { as_column n result ≡ each_at (level_at lossless depth) (dues (due_of escape format size turned k) e 0 (take n indices)) list.now at }
+) -> Result<[u16; 1024], Refused>
+    requires { (1 ≤ cells.now.size) × (length cells.now.indices.now ≤ 1024) × (depth ≤ 16) }
+    ensures value { as_column (length cells.now.indices.now) result reader.new.at ≡ each_at (level_at cells.now.lossless depth) (dues (due_of cells.now.escape cells.now.format cells.now.size cells.now.turned k) cells.now.e 0 cells.now.indices.now) reader.old.list.now reader.old.at }
+    ensures list { reader.new.list ≡ reader.old.list }
 {
-    let mut values = [0u16; 1024];
-    let mut i: usize = 0;
-    let mut p = at;
-    while i < n {
-        let x = indices[i];
-        let here = (x == e) & escape;
-        match cell_at(list, p, here, k, format, size, turned, i, lossless, depth) {
-            Number::Refused(no, q) => {
-                return ColumnRead {
-                    next: Next::Refused(no, q),
-                    values: values,
-                };
-            }
-            Number::Is(v, q) => {
-                let w = narrow(v);
-                values[i] = w;
-                i += 1;
-                p = q;
-            }
-        }
+    let mut values = [0; 1024];
+    for (i, &index) in cells.indices.iter().enumerate() {
+        values[i] = cell_at(reader, cells, k, i, index, depth)? as u16;
     }
-    ColumnRead {
-        next: Next::At(p),
-        values: values,
-    }
-}
-
-// The third component, after the first and the second.
-fn third_at(
-    list: &[u8],
-    at: usize,
-    indices: [u8; 1024],
-    n: usize,
-    e: u8,
-    escape: bool,
-    format: u8,
-    size: usize,
-    turned: bool,
-    lossless: bool,
-    depth: u32,
-    y: [u16; 1024],
-    cb: [u16; 1024],
-) -> LevelsRead
-    requires { (1 ≤ size) × (n ≤ 1024) × (depth ≤ 16) }
-    ensures { as_levels n result ≡ third_at escape format size turned lossless depth e (take n indices) (take n y) (take n cb) list.now at }
-{
-    let got = column_at(
-        list, at, indices, n, e, escape, 2, format, size, turned, lossless, depth,
-    );
-    let next = got.next;
-    let cr = got.values;
-    LevelsRead { next, y, cb, cr }
-}
-
-// A refusal of levels.
-fn no_levels(no: u8, q: usize) -> LevelsRead
-    ensures { result.next ≡ N.Refused no q }
-{
-    LevelsRead {
-        next: Next::Refused(no, q),
-        y: [0u16; 1024],
-        cb: [0u16; 1024],
-        cr: [0u16; 1024],
-    }
+    Ok(values)
 }
 
 // All levels of a block.
+#[tactic(auto, unfolding(crate::specs::Read::all_at, crate::specs::Read::third_at))]
 pub fn levels_at(
-    list: &[u8],
-    at: usize,
-    indices: [u8; 1024],
-    n: usize,
-    e: u8,
-    escape: bool,
-    format: u8,
-    size: usize,
-    turned: bool,
-    lossless: bool,
+    reader: &mut BinReader<'_>,
+    cells: &Cells<'_>,
     luma: u8,
     chroma: u8,
-) -> LevelsRead
-    requires { (1 ≤ size) × (n ≤ 1024) × (luma ≤ 12) × (chroma ≤ 12) }
-    ensures { as_levels n result ≡ all_at escape format size turned lossless luma chroma e (take n indices) list.now at }
+) -> Result<Columns, Refused>
+    requires { (1 ≤ cells.now.size) × (length cells.now.indices.now ≤ 1024) × (luma ≤ 12) × (chroma ≤ 12) }
+    ensures value { as_levels (length cells.now.indices.now) result reader.new.at ≡ all_at cells.now.escape cells.now.format cells.now.size cells.now.turned cells.now.lossless luma chroma cells.now.e cells.now.indices.now reader.old.list.now reader.old.at }
+    ensures list { reader.new.list ≡ reader.old.list }
 {
-    let d = chroma_depth(format, chroma);
-    let l = luma as u32;
-    let ys = column_at(
-        list, at, indices, n, e, escape, 0, format, size, turned, lossless, l,
-    );
-    let g = ys.next;
-    match g {
-        Next::Refused(no, q) => no_levels(no, q),
-        Next::At(q) => {
-            let us = column_at(
-                list, q, indices, n, e, escape, 1, format, size, turned, lossless, d,
-            );
-            let h = us.next;
-            match h {
-                Next::Refused(no, r) => no_levels(no, r),
-                Next::At(r) => {
-                    let y = ys.values;
-                    let cb = us.values;
-                    third_at(
-                        list, r, indices, n, e, escape, format, size, turned, lossless, d, y, cb,
-                    )
-                }
-            }
-        }
-    }
+    let depth = chroma_depth(cells.format, chroma);
+    let y = column_at(reader, cells, 0, u32::from(luma))?;
+    let cb = column_at(reader, cells, 1, depth)?;
+    let cr = column_at(reader, cells, 2, depth)?;
+    Ok(Columns { y, cb, cr })
 }

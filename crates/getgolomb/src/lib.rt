@@ -1,33 +1,36 @@
-// Readers of Exp-Golomb values from a list of bins.
+// Readers of Exp-Golomb values.
 #![tactic(auto)]
 
 ghost use Rattle.std.specs.Prelude.{◌≡◌, ◌≤◌};
 ghost use Rattle.h265.specs.Parse.{egk_at, held};
-ghost use Rattle.bins.specs.As.{as_number};
+ghost use Rattle.get.specs.As.{answer_of};
 
-use bins::Number;
+use get::BinReader;
 use getones::ones_at;
+use refusal::{Refusal, Refused};
 
 // Exp-Golomb of order `order`.
-pub fn egk_at(list: &[u8], at: usize, order: u32) -> Number
+#[tactic(auto, unfolding(h265::specs::Parse::egk_at))]
+pub fn egk_at(reader: &mut BinReader<'_>, order: u32) -> Result<u32, Refused>
     requires { order ≤ 13 }
-    ensures { as_number result ≡ egk_at order list.now at }
+    ensures value { answer_of result reader.new.at ≡ egk_at order reader.old.list.now reader.old.at }
+    ensures list { reader.new.list ≡ reader.old.list }
 {
-    ones_at(list, at, at, order, 0)
+    let first = reader.at;
+    ones_at(reader, first, order, 0)
 }
 
 // Exp-Golomb of order `order`, of values up to `top`.
-pub fn held_egk_at(list: &[u8], at: usize, order: u32, top: u32) -> Number
+#[tactic(auto, unfolding(h265::specs::Parse::held))]
+pub fn held_egk_at(reader: &mut BinReader<'_>, order: u32, top: u32) -> Result<u32, Refused>
     requires { order ≤ 13 }
-    ensures { as_number result ≡ held at top (egk_at order list.now at) }
+    ensures value { answer_of result reader.new.at ≡ held reader.old.at top (egk_at order reader.old.list.now reader.old.at) }
+    ensures list { reader.new.list ≡ reader.old.list }
 {
-    match egk_at(list, at, order) {
-        Number::Refused(no, q) => Number::Refused(no, q),
-        Number::Is(v, q) => {
-            if top < v {
-                return Number::Refused(12, at);
-            }
-            Number::Is(v, q)
-        }
+    let first = reader.at;
+    let value = egk_at(reader, order)?;
+    if value > top {
+        return Err(Refusal::Value.at(first));
     }
+    Ok(value)
 }

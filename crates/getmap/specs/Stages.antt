@@ -1,9 +1,8 @@
 -- The stages of the map as the code has them.
-use Rattle.std.specs.Prelude.{◌≡◌, refl, Bool, true, false, List, [], ℕ, ◌≤◌, ◌<◌}
-use Rattle.std.proofs.Common.{arith, lt-ltb}
+use Rattle.std.specs.Prelude.{◌≡◌, refl, Bool, false, List, [], ℕ, ◌≤◌}
+use Rattle.std.proofs.Common.{lt-ltb}
 use Rattle.base.specs.Answer.{Answer, Value, Refused, onward}
 use Rattle.base.specs.Codes.{when_at}
-use Rattle.base.specs.Pick.{pick}
 use Rattle.h265.specs.Parse.{bin_at, marker_at}
 use Rattle.syntax.specs.Block.{Map, indices_at, coded_at, map_at}
 use Rattle.syntax.specs.Runs.{Run, runs_at}

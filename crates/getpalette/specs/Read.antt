@@ -1,31 +1,41 @@
 -- The reader's palette: what stands in its record for an answer of the definition, and the stages of the code.
-use Rattle.std.specs.Prelude.{◌≡◌, Bool, true, ℕ, zero, suc, ◌+◌, ◌-◌, ◌≤◌, ◌<◌, ltb, drop, get_or, set, replicate}
+use Rattle.std.specs.Prelude.{◌≡◌, Result, Ok, Err, Bool, true, ℕ, zero, suc, ◌+◌, ◌-◌, ◌≤◌, ◌<◌, ltb, drop, get_or, set, replicate}
 use Rattle.std.proofs.Math.Path.{refl, ap, sym}
-use Rattle.std.proofs.Common.{◌∙◌, add-one, arith, length-set, length-take-le}
+use Rattle.std.proofs.Common.{◌∙◌, add-one, arith, length-take-le}
 use Rattle.std.proofs.Math.Bool.{false}
 use mathlib.Core.List.{List, [], ◌∷◌, ◌++◌, append_assoc, append-nil}
 use Rattle.std.proofs.Math.ListN.{length, take}
 use Rattle.base.specs.Answer.{Answer, Value, Refused, onward}
 use Rattle.base.specs.Codes.{when_at}
 use Rattle.base.specs.Counted as C
-use Rattle.base.specs.Lists.{padded, padded-is, padded-take, padded-drop, drop_more}
+use Rattle.base.specs.Lists.{padded, padded-is, padded-take, drop_more}
 use Rattle.getentries.specs.Read.{lent}
-use Rattle.get.specs.declared.Next.TheVariants as N
 use Rattle.h265.specs.Parse.{bin_at}
 use Rattle.h265.specs.Reuse.{trues, reuse_at}
 use Rattle.model.specs.Domain.{no_color}
 use Rattle.syntax.specs.Block.{Entry, Call, Palette, colours, entries, chosen, signalled_at, entries_at, palette_at}
 use Rattle.syntax.proofs.PaletteLaws.{signalled_code, entries_code}
-use Rattle.getpalette.specs.declared.PaletteRead.{PaletteRead}
+use Rattle.refusal.specs.Refusal.{number_of}
+use Rattle.refusal.specs.declared.Refused as E
+use Rattle.getpalette.specs.declared.PaletteRead as D
+
+-- the place after the palette, or a refusal; flags, signalled entries, entries and the escape flag
+pub record PaletteRead : Type 0 where
+  pub next : Answer (Unit {0})
+  pub flags : List Bool
+  pub new : ℕ
+  pub size : ℕ
+  pub palette : List Entry
+  pub escape : Bool
 
 -- a refusal stands beside a blank palette
 unfoldable pub blank_read : ℕ → ℕ → PaletteRead
-blank_read k q = record { next = N.Refused k q; flags = replicate 128 false; new = 0; size = 0; palette = replicate 64 no_color; escape = false }
+blank_read k q = record { next = Refused k q; flags = replicate 128 false; new = 0; size = 0; palette = replicate 64 no_color; escape = false }
 
 -- `old` are the predictor's entries: those that are marked come first
 unfoldable pub palette_read : List Entry → Answer Palette → PaletteRead
 palette_read old (Value x q) = record {
-  next = N.At q;
+  next = Value tt q;
   flags = padded 128 false x.flags;
   new = length x.fresh;
   size = colours x;
@@ -33,6 +43,15 @@ palette_read old (Value x q) = record {
   escape = x.escape;
 }
 palette_read old (Refused k q) = blank_read k q
+
+-- the code's palette and the place after it
+abbrev pub placed_at : D.PaletteRead → ℕ → PaletteRead
+placed_at r q = record { next = Value tt q; flags = r.flags; new = r.new; size = r.size; palette = r.palette; escape = r.escape }
+
+-- the code's answer as the definition's
+abbrev pub as_palette : Result D.PaletteRead E.Refused → ℕ → PaletteRead
+as_palette (Ok r) q = placed_at r q
+as_palette (Err e) q = blank_read (number_of e.refusal) e.place
 
 -- what follows the reuse runs
 unfoldable pub fresh_at : Call → List Bool → List ℕ → ℕ → Answer Palette
@@ -81,7 +100,7 @@ module _ (limit format luma chroma : ℕ) (old : List Entry) (fs : List Bool) (r
           flags ≡ padded 128 false fs →
           first ≡ padded 64 no_color (chosen fs old) →
           palette ≡ padded 64 no_color (take reused first ++ es) →
-          ◌≡◌ {A = PaletteRead} (record { next = N.At t; flags = flags; new = new; size = reused + new; palette = palette; escape = b }) (palette_read old (fresh_at call fs l p))
+          ◌≡◌ {A = PaletteRead} (record { next = Value tt t; flags = flags; new = new; size = reused + new; palette = palette; escape = b }) (palette_read old (fresh_at call fs l p))
       unfolding fresh_at palette_read
       fresh-made b t flags first palette e n f a w =
           let k : length (chosen fs old) ≡ reused = n ∙ sym s in

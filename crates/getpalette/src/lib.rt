@@ -1,28 +1,27 @@
-// The reader of a block's palette from a list of bins: reuse runs, signalled entries and the escape flag.
+// The reader of a block's palette: reuse runs, signalled entries and the escape flag.
 #![tactic(auto)]
 
 ghost use Rattle.std.specs.Prelude.{◌≡◌, true, false, ◌++◌, ◌+◌, ◌-◌, ◌≤◌, ◌<◌, ltb, length, take, drop, replicate};
 ghost use Rattle.base.specs.Codes.{when_at};
 ghost use Rattle.base.specs.Lists.{padded};
-ghost use Rattle.bins.specs.As.{as_bool, as_number};
+ghost use Rattle.get.specs.As.{answer_of};
 ghost use Rattle.getentries.specs.Read.{lent};
 ghost use Rattle.h265.specs.Parse.{bin_at};
 ghost use Rattle.h265.specs.Reuse.{trues};
 ghost use Rattle.model.specs.Domain.{no_color};
 ghost use Rattle.syntax.specs.Block.{entries, chosen, signalled_at, palette_at};
-ghost use Rattle.getpalette.specs.Read.{blank_read, palette_read, fresh_at};
+ghost use Rattle.getpalette.specs.Read.{as_palette, palette_read, fresh_at};
 
-use bins::{Bin, Number};
-use get::{Next, bin_at};
+use get::BinReader;
 use getentries::entries_at;
 use getgolomb::held_egk_at;
-use getreuse::reuse_at;
+use getreuse::{Reuse, reuse_at};
 use model::Color;
+use refusal::Refused;
 
-// The place after the palette, or a refusal; flags, signalled entries, entries and the escape flag.
+// Flags of the predictor's entries, the number of signalled entries, that of all entries, the entries and the escape flag. Stays an array with a count: no heap.
 #[derive(Clone, Copy)]
 pub struct PaletteRead {
-    pub next: Next,
     pub flags: [bool; 128],
     pub new: usize,
     pub size: usize,
@@ -31,41 +30,37 @@ pub struct PaletteRead {
 }
 
 // num_signalled_palette_entries, where the limit leaves room.
-fn signalled_at(list: &[u8], at: usize, limit: u32, reused: u32) -> Number
-    ensures { as_number result ≡ signalled_at limit reused list.now at }
+#[tactic(auto, unfolding(syntax::specs::Block::signalled_at))]
+fn signalled_at(reader: &mut BinReader<'_>, limit: u32, reused: u32) -> Result<u32, Refused>
+    ensures value { answer_of result reader.new.at ≡ signalled_at limit reused reader.old.list.now reader.old.at }
+    ensures list { reader.new.list ≡ reader.old.list }
 {
     if reused < limit {
-        return held_egk_at(list, at, 0, limit - reused);
+        held_egk_at(reader, 0, limit - reused)
+    } else {
+        Ok(0)
     }
-    Number::Is(0, at)
 }
 
 // The escape flag; on where it is not sent.
-fn escape_at(list: &[u8], at: usize, size: u32) -> Bin
-    ensures { as_bool result ≡ when_at (ltb 0 size) true (bin_at 0) list.now at }
+fn escape_at(reader: &mut BinReader<'_>, size: u32) -> Result<bool, Refused>
+    ensures value { answer_of result reader.new.at ≡ when_at (ltb 0 size) true (bin_at 0) reader.old.list.now reader.old.at }
+    ensures list { reader.new.list ≡ reader.old.list }
 {
-    if 0 < size {
-        return bin_at(list, at, 0);
-    }
-    Bin::Is(true, at)
+    if 0 < size { reader.bin(0) } else { Ok(true) }
 }
 
-// The entries that the first `count` flags mark.
-fn marked(flags: [bool; 128], count: usize, old: [Color; 128]) -> [Color; 64]
-    requires { (count ≤ 128) × (trues (take count flags) ≤ 64) }
-    ensures { (result ≡ padded 64 no_color (chosen (take count flags) (take count old))) × (length (chosen (take count flags) (take count old)) ≡ trues (take count flags)) }
+// The entries that the flags mark.
+fn marked(flags: &[bool; 128], old: &[Color]) -> [Color; 64]
+    requires { (length old.now ≤ 128) × (trues (take (length old.now) flags.now) ≤ 64) }
+    ensures { (result ≡ padded 64 no_color (chosen (take (length old.now) flags.now) old.now)) × (length (chosen (take (length old.now) flags.now) old.now) ≡ trues (take (length old.now) flags.now)) }
 {
     let mut out = [Color { y: 0, cb: 0, cr: 0 }; 64];
-    let mut k: usize = 0;
-    let mut i: usize = 0;
-    while i < count {
+    let mut k = 0;
+    for (i, color) in old.iter().enumerate() {
         if flags[i] {
-            let c = old[i];
-            out[k] = c;
+            out[k] = *color;
             k += 1;
-            i += 1;
-        } else {
-            i += 1;
         }
     }
     out
@@ -76,111 +71,66 @@ fn with_fresh(
     first: [Color; 64],
     from: usize,
     n: usize,
-    y: [u16; 64],
-    cb: [u16; 64],
-    cr: [u16; 64],
+    y: &[u16; 64],
+    cb: &[u16; 64],
+    cr: &[u16; 64],
 ) -> [Color; 64]
     requires { (from + n ≤ 64) × (drop from first ≡ drop from (replicate 64 no_color)) }
-    ensures { result ≡ padded 64 no_color (take from first ++ entries (take n y) (take n cb) (take n cr)) }
+    ensures { result ≡ padded 64 no_color (take from first ++ entries (take n y.now) (take n cb.now) (take n cr.now)) }
 {
     let mut out = first;
-    let mut i: usize = 0;
-    while i < n {
+    for i in 0..n {
         out[from + i] = Color {
             y: y[i],
             cb: cb[i],
             cr: cr[i],
         };
-        i += 1;
     }
     out
 }
 
-// A refusal.
-fn refused(no: u8, q: usize) -> PaletteRead
-    ensures { result ≡ blank_read no q }
-{
-    PaletteRead {
-        next: Next::Refused(no, q),
-        flags: [false; 128],
-        new: 0,
-        size: 0,
-        palette: [Color { y: 0, cb: 0, cr: 0 }; 64],
-        escape: false,
-    }
-}
-
-// What follows the reuse runs: the first `count` flags mark `reused` entries of the predictor.
+// What follows the reuse runs.
 fn fresh_at(
-    list: &[u8],
-    at: usize,
+    reader: &mut BinReader<'_>,
     limit: u32,
     format: u8,
     luma: u8,
     chroma: u8,
-    old: [Color; 128],
-    count: usize,
-    flags: [bool; 128],
-    reused: u32,
-) -> PaletteRead
-    requires { (limit ≤ 64) × (luma ≤ 12) × (chroma ≤ 12) × (count ≤ 128) × (reused ≡ trues (take count flags)) × (reused ≤ limit) × (flags ≡ padded 128 false (take count flags)) }
-    ensures { result ≡ palette_read (take count old) (fresh_at (lent limit format luma chroma (take count old)) (take count flags) list.now at) }
+    old: &[Color],
+    reuse: &Reuse,
+) -> Result<PaletteRead, Refused>
+    requires { (limit ≤ 64) × (luma ≤ 12) × (chroma ≤ 12) × (length old.now ≤ 128) × (reuse.now.reused ≡ trues (take (length old.now) reuse.now.flags)) × (reuse.now.reused ≤ limit) × (reuse.now.flags ≡ padded 128 false (take (length old.now) reuse.now.flags)) }
+    ensures value { as_palette result reader.new.at ≡ palette_read old.now (fresh_at (lent limit format luma chroma old.now) (take (length old.now) reuse.now.flags) reader.old.list.now reader.old.at) }
+    ensures list { reader.new.list ≡ reader.old.list }
 {
-    match signalled_at(list, at, limit, reused) {
-        Number::Refused(no, q) => refused(no, q),
-        Number::Is(new, q) => {
-            let n = new as usize;
-            let es = entries_at(list, q, n, format, luma, chroma);
-            let g = es.next;
-            match g {
-                Next::Refused(no, r) => refused(no, r),
-                Next::At(r) => match escape_at(list, r, reused + new) {
-                    Bin::Refused(no, t) => refused(no, t),
-                    Bin::Is(escape, t) => {
-                        let first = marked(flags, count, old);
-                        let y = es.y;
-                        let cb = es.cb;
-                        let cr = es.cr;
-                        let k = reused as usize;
-                        let palette = with_fresh(first, k, n, y, cb, cr);
-                        PaletteRead {
-                            next: Next::At(t),
-                            flags: flags,
-                            new: n,
-                            size: k + n,
-                            palette: palette,
-                            escape: escape,
-                        }
-                    }
-                },
-            }
-        }
-    }
+    let new = signalled_at(reader, limit, reuse.reused)?;
+    let n = new as usize;
+    let fresh = entries_at(reader, n, format, luma, chroma)?;
+    let escape = escape_at(reader, reuse.reused + new)?;
+    let from = reuse.reused as usize;
+    let first = marked(&reuse.flags, old);
+    Ok(PaletteRead {
+        flags: reuse.flags,
+        new: n,
+        size: from + n,
+        palette: with_fresh(first, from, n, &fresh.y, &fresh.cb, &fresh.cr),
+        escape,
+    })
 }
 
-// The palette of a block, with the first `count` entries of a predictor.
+// The palette of a block, with the entries of a predictor.
 pub fn palette_at(
-    list: &[u8],
-    at: usize,
+    reader: &mut BinReader<'_>,
     limit: u32,
     format: u8,
     luma: u8,
     chroma: u8,
-    old: [Color; 128],
-    count: usize,
-) -> PaletteRead
-    requires { (limit ≤ 64) × (luma ≤ 12) × (chroma ≤ 12) × (count ≤ 128) }
-    ensures { result ≡ palette_read (take count old) (palette_at (lent limit format luma chroma (take count old)) list.now at) }
+    old: &[Color],
+) -> Result<PaletteRead, Refused>
+    requires { (limit ≤ 64) × (luma ≤ 12) × (chroma ≤ 12) × (length old.now ≤ 128) }
+    ensures value { as_palette result reader.new.at ≡ palette_read old.now (palette_at (lent limit format luma chroma old.now) reader.old.list.now reader.old.at) }
+    ensures list { reader.new.list ≡ reader.old.list }
 {
-    let got = reuse_at(list, at, limit, count as u32);
-    let g = got.got;
-    match g {
-        Number::Refused(no, q) => refused(no, q),
-        Number::Is(reused, q) => {
-            let flags = got.flags;
-            fresh_at(
-                list, q, limit, format, luma, chroma, old, count, flags, reused,
-            )
-        }
-    }
+    let reuse = reuse_at(reader, limit, old.len() as u32)?;
+    fresh_at(reader, limit, format, luma, chroma, old, &reuse)
 }

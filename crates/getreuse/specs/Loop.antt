@@ -7,17 +7,22 @@ use mathlib.Core.List.{List, [], ◌∷◌, ◌++◌, append_assoc}
 use Prim.Native.Nat.{ℕ, zero, suc, ◌+◌, ◌-◌, ◌≤◌, ◌<◌}
 use Rattle.std.proofs.Math.Nat.{sub-zero}
 use native.Mathlib.Omega.{arith}
+use borrow.Author.Tests.{ne_eqb}
 use Rattle.std.proofs.Math.ListN.{length, replicate, length-append, length-replicate}
 use Rattle.std.proofs.lemmas.List.{replicate-append-replicate, set_at}
-use Rattle.base.specs.Answer.{Answer, Value, Refused}
+use Rattle.base.specs.Answer.{Value, Refused}
 use Rattle.base.specs.Prepend.{prepend, prepend-none, prepend-more}
 use Rattle.h265.specs.Reuse.{trues, gap_of, reuse_at}
 use Rattle.h265.proofs.ReuseLaws.{trues-none, trues-append}
 use Rattle.h265.specs.Parse.{egk_at}
 use Rattle.h265.specs.ReuseTurns.{reuse_turn}
-use Rattle.bins.specs.declared.Number.TheVariants as N
-use Rattle.getreuse.specs.declared.ReuseRead.{ReuseRead}
-use Rattle.getreuse.specs.Read.{read_of}
+use Rattle.getreuse.specs.Read.{ReuseRead, read_of}
+
+-- run r passes over r - 1 entries, and run 0 over none
+pub gap_less : (r : ℕ) → r - 1 ≡ gap_of r
+unfolding gap_of
+gap_less zero = refl
+gap_less (suc r) = rw (ne_eqb (suc r) 0 (λ z. omega arith))
 
 -- flags of the entries up to idx were read, the others are off, and what is left to read makes the whole
 pub record Going (limit count : ℕ) (l : List ℕ) (at : ℕ) (flags : List Bool) (reused idx p : ℕ) : Type 0 where
@@ -69,7 +74,7 @@ module _ {limit count : ℕ} {l : List ℕ} {at : ℕ} {flags : List Bool} {reus
       }
 
   -- the flags of the entries left are off already
-  pub going_end : (q : ℕ) → count ≤ 128 → reuse_at (limit - reused) (count - idx) l p ≡ Value (replicate (count - idx) false) q → ◌≡◌ {A = ReuseRead} (record { got = N.Is reused q; flags = flags }) (read_of (reuse_at limit count l at))
+  pub going_end : (q : ℕ) → count ≤ 128 → reuse_at (limit - reused) (count - idx) l p ≡ Value (replicate (count - idx) false) q → ◌≡◌ {A = ReuseRead} (record { got = Value reused q; flags = flags }) (read_of (reuse_at limit count l at))
   unfolding read_of prepend
   going_end q small f =
       let k = count - idx in

@@ -1,72 +1,45 @@
-// Reader of the reuse runs from a list of bins: which predictor entries the palette takes.
+// Reader of the reuse runs: which predictor entries the palette takes.
 #![tactic(auto)]
 
 ghost use Rattle.std.specs.Prelude.{◌≡◌, ◌≤◌};
-ghost use Rattle.base.specs.Answer.{Refused};
-ghost use Rattle.h265.specs.Reuse.{gap_of, reuse_at};
-ghost use Rattle.getreuse.specs.Read.{read_of};
+ghost use Rattle.h265.specs.Reuse.{reuse_at};
+ghost use Rattle.getreuse.specs.Read.{as_read, read_of};
 
-use bins::Number;
+use get::BinReader;
 use getgolomb::egk_at;
+use refusal::{Refusal, Refused};
 
-// Flags of the predictor's entries, with the number of those reused and the place after the runs, or a refusal.
+// Which of a predictor's entries are reused, and how many are.
 #[derive(Clone, Copy)]
-pub struct ReuseRead {
-    pub got: Number,
+pub struct Reuse {
     pub flags: [bool; 128],
-}
-
-// A refusal has no flag on.
-fn refused(no: u8, q: usize) -> ReuseRead
-    ensures { result ≡ read_of (Refused no q) }
-{
-    ReuseRead {
-        got: Number::Refused(no, q),
-        flags: [false; 128],
-    }
-}
-
-// The entries that palette_predictor_run r passes over.
-fn gap_of(r: u32) -> u32
-    ensures { result ≡ gap_of r }
-{
-    if r == 0 { 0 } else { r - 1 }
+    pub reused: u32,
 }
 
 // The reuse runs of a predictor of `count` entries, of which at most `limit` are reused.
-pub fn reuse_at(list: &[u8], at: usize, limit: u32, count: u32) -> ReuseRead
+pub fn reuse_at(reader: &mut BinReader<'_>, limit: u32, count: u32) -> Result<Reuse, Refused>
     requires { count ≤ 128 }
-    ensures { result ≡ read_of (reuse_at limit count list.now at) }
+    ensures value { as_read result reader.new.at ≡ read_of (reuse_at limit count reader.old.list.now reader.old.at) }
+    ensures list { reader.new.list ≡ reader.old.list }
 {
     let mut flags = [false; 128];
-    let mut reused: u32 = 0;
-    let mut idx: u32 = 0;
-    let mut p = at;
-    while idx < count && reused < limit {
-        match egk_at(list, p, 0) {
-            Number::Refused(no, q) => {
-                return refused(no, q);
-            }
-            Number::Is(r, q) => {
-                if r == 1 {
-                    return ReuseRead {
-                        got: Number::Is(reused, q),
-                        flags: flags,
-                    };
-                }
-                let gap = gap_of(r);
-                if count - idx <= gap {
-                    return refused(12, p);
-                }
-                flags[(idx + gap) as usize] = true;
-                idx = idx + gap + 1;
-                reused += 1;
-                p = q;
-            }
+    let mut reused = 0;
+    let mut next = 0;
+    // Stays a while: the step is the run's length.
+    while next < count && reused < limit {
+        let first = reader.at;
+        let run = egk_at(reader, 0)?;
+        if run == 1 {
+            break;
         }
+        let gap = run.saturating_sub(1);
+        if count - next <= gap {
+            return Err(Refusal::Value.at(first));
+        }
+        next += gap;
+        flags[next as usize] = true;
+        next += 1;
+        reused += 1;
     }
-    ReuseRead {
-        got: Number::Is(reused, p),
-        flags: flags,
-    }
+    Ok(Reuse { flags, reused })
 }

@@ -1,67 +1,47 @@
-// Reader of a run's length from a list of bins: palette_run_prefix and palette_run_suffix.
+// Reader of a run's length: palette_run_prefix and palette_run_suffix.
 #![tactic(auto)]
 
 ghost use Rattle.std.specs.Prelude.{◌≡◌, ◌+◌, ◌≤◌};
-ghost use Rattle.h265.specs.Parse.{unary_at, suffix_at, run_at};
+ghost use Rattle.h265.specs.Parse.{suffix_at, run_at};
 ghost use Rattle.h265.specs.Strings as S;
-ghost use Rattle.bins.specs.As.{as_number};
+ghost use Rattle.get.specs.As.{answer_of};
 
-use bins::{Bin, Number, flog, pow2, run_class, suffixes};
-use get::bin_at;
+use bins::{flog, pow2, run_class, suffixes};
+use get::BinReader;
 use getbits::tb_at;
-
-// A run's prefix: at most `most` ones.
-fn prefix_at(list: &[u8], at: usize, most: u32, above: bool, sent: u32) -> Number
-    ensures { as_number result ≡ unary_at (S.run_class above sent) 0 most list.now at }
-{
-    let mut p = at;
-    let mut i: u32 = 0;
-    while i < most {
-        let class = run_class(above, sent, i);
-        match bin_at(list, p, class) {
-            Bin::Refused(no, q) => {
-                return Number::Refused(no, q);
-            }
-            Bin::Is(b, q) => {
-                if b {
-                    p = q;
-                    i += 1;
-                } else {
-                    return Number::Is(i, q);
-                }
-            }
-        }
-    }
-    Number::Is(i, p)
-}
+use getones::ones_of;
+use refusal::Refused;
 
 // What a run's suffix adds to after prefix k.
-fn suffix_at(list: &[u8], at: usize, longest: u32, k: u32) -> Number
+fn suffix_at(reader: &mut BinReader<'_>, longest: u32, k: u32) -> Result<u32, Refused>
     requires { (1 ≤ longest) × (longest ≤ 1024) × (k ≤ S.flog longest + 1) }
-    ensures { as_number result ≡ suffix_at longest k list.now at }
+    ensures value { answer_of result reader.new.at ≡ suffix_at longest k reader.old.list.now reader.old.at }
+    ensures list { reader.new.list ≡ reader.old.list }
 {
     if k == 0 {
-        return Number::Is(0, at);
+        return Ok(0);
     }
     let p = pow2(k - 1);
     let n = suffixes(longest, p);
-    match tb_at(list, at, n) {
-        Number::Refused(no, q) => Number::Refused(no, q),
-        Number::Is(v, q) => Number::Is(p + v, q),
-    }
+    Ok(p + tb_at(reader, n)?)
 }
 
 // A run's further cells, of at most `longest`.
-pub fn run_at(list: &[u8], at: usize, longest: u32, above: bool, sent: u32) -> Number
+#[tactic(auto, unfolding(h265::specs::Parse::run_at))]
+pub fn run_at(
+    reader: &mut BinReader<'_>,
+    longest: u32,
+    above: bool,
+    sent: u32,
+) -> Result<u32, Refused>
     requires { longest ≤ 1024 }
-    ensures { as_number result ≡ run_at longest above sent list.now at }
+    ensures value { answer_of result reader.new.at ≡ run_at longest above sent reader.old.list.now reader.old.at }
+    ensures list { reader.new.list ≡ reader.old.list }
 {
     if longest == 0 {
-        return Number::Is(0, at);
+        return Ok(0);
     }
     let most = flog(longest) + 1;
-    match prefix_at(list, at, most, above, sent) {
-        Number::Refused(no, q) => Number::Refused(no, q),
-        Number::Is(k, q) => suffix_at(list, q, longest, k),
-    }
+    let prefix = ones_of(reader, most, |ones| run_class(above, sent, ones))?;
+    suffix_at(reader, longest, prefix)
 }

@@ -1,18 +1,20 @@
 -- One run, as the code reads it, and that the definition's turn is this.
-use Rattle.std.specs.Prelude.{◌≡◌, Bool, ltb, leb, eqb, take, drop, get_or, set, replicate}
+use Rattle.std.specs.Prelude.{◌≡◌, Bool, ltb, eqb, take, drop, get_or, set, replicate}
 use Rattle.std.proofs.Math.Path.{refl}
-use Rattle.std.proofs.Common.{ap, sym, ◌∙◌, add-one, add-zero, length-drop}
-use Rattle.std.proofs.Math.Bool.{true, false}
-use mathlib.Core.List.{List, [], ◌∷◌, ◌++◌}
+use Rattle.std.proofs.Common.{sym, ◌∙◌, add-one, add-zero, length-drop}
+use Rattle.std.proofs.Math.Bool.{true, false, not}
+use Rattle.std.proofs.lemmas.Bool.{false≢true}
+use Rattle.std.proofs.lemmas.List.{take_all}
+use mathlib.Core.List.{List, [], ◌∷◌}
 use Prim.Native.Nat.{ℕ, zero, suc, ◌+◌, ◌-◌, ◌≤◌, ◌<◌}
 use native.Mathlib.Omega.{arith}
 use Rattle.std.proofs.Math.ListN.{length}
 use Rattle.base.specs.Lists.{drop_more, padded-is}
 use lib.Seq.{drop-cons, get_or-take, length-take-le}
-use borrow.Author.Tests.{le-leb, lt-leb, lt-ltb, le-ltb, ltb-false, eq-eqb, ne_eqb, eqb-false}
+use borrow.Author.Tests.{le-leb, lt-leb, ltb-false, ne_eqb, eqb-false}
 use Rattle.base.specs.Pick.{pick, either}
-use Rattle.base.specs.Answer.{Answer, Value, Refused, onward, went, refused_not, same-value, same_place}
-use Rattle.base.specs.Prepend.{prepend, prepend-more}
+use Rattle.base.specs.Answer.{Answer, Value, Refused, onward, went, refused_not, same-value}
+use Rattle.base.specs.Prepend.{prepend}
 use Rattle.h265.proofs.RunLaws.{run_code}
 use Rattle.syntax.specs.Records.{no_run}
 use Rattle.getruns.specs.As.{RestBlank}
@@ -31,6 +33,19 @@ one_at size n fin scan prev left next l p =
 -- the indices left after a run
 abbrev pub leave : Bool → List ℕ → List ℕ
 leave above is = pick above is (drop 1 is)
+
+-- the indices left, as a slice: all but the first after an index run, all after a copy-above run
+pub rest-taken : (above : Bool) (is : List ℕ) → not above ≡ true → take (length is - 1) (drop 1 is) ≡ leave above is
+rest-taken true is e = absurd (false≢true e)
+rest-taken false is e = take_all (length is - 1) (drop 1 is) (omega (arith, length-drop 1 is))
+
+pub rest_kept : (above : Bool) (is : List ℕ) → not above ≡ false → is ≡ leave above is
+rest_kept true is e = refl
+rest_kept false is e = absurd (false≢true (sym e))
+
+pub leave_le : (above : Bool) (is : List ℕ) → length (leave above is) ≤ length is
+leave_le true is = omega arith
+leave_le false is = omega (arith, length-drop 1 is)
 
 -- the definition's turn over a list of indices
 module _ (f g size n : ℕ) (fin : Bool) (scan : ℕ) (prev : Bool) (l : List ℕ) (p : ℕ) (e : f ≡ suc g) (h : scan < n) where
@@ -67,6 +82,15 @@ module _ (f g size n : ℕ) (fin : Bool) (scan : ℕ) (prev : Bool) (l : List �
           let z : suc (length is) - 1 ≡ length is = omega arith in
           rw (ne_eqb (suc (length is)) 0 (λ y. omega arith), z) (step (i ∷ is) false i (more_at n scan (length is) fin false i l q))
       turn (Refused k q) = refl
+
+  -- the same where the run is refused, and where it is read
+  module _ (is : List ℕ) (next : ℕ) (w : 0 < length is → next ≡ get_or is 0 0) where
+    pub list-refused : (k q : ℕ) → one_at size n fin scan prev (length is) next l p ≡ Refused k q → runs_at f size n fin scan prev is l p ≡ Refused k q
+    list-refused k q d = runs-one is next w ∙ rw d
+
+    pub list-turn : (r : Run) (t : ℕ) → one_at size n fin scan prev (length is) next l p ≡ Value r t →
+        runs_at f size n fin scan prev is l p ≡ prepend (r ∷ []) (runs_at g size n fin (scan + r.more + 1) r.above (leave r.above is) l t)
+    list-turn r t d = runs-one is next w ∙ rw d
 
   -- the same over the array of indices: `used` of the first `total` are used
   module _ (sent : List ℕ) (total used : ℕ) (u : used ≤ total) (o : total ≤ length sent) where
@@ -127,6 +151,11 @@ module _ (size n : ℕ) (fin : Bool) (scan : ℕ) (prev : Bool) (left next : ℕ
           let b = sized-fits n scan (left - 1) fin false next l t h r q (rw z at y) in
           let c = eqb-false left 0 z in
           record { inside = b.0; used = rw b.1 (omega arith) })
+
+-- an index run leaves one index fewer
+pub one-left : (above : Bool) (left : ℕ) → not above ≡ true → pick above 0 1 ≤ left → 1 ≤ left
+one-left true left e h = absurd (false≢true e)
+one-left false left e h = h
 
 pub one-most : (b : Bool) → pick b 0 1 ≤ 1
 one-most true = omega arith

@@ -2,6 +2,7 @@
 use Rattle.std.specs.Prelude.{Bool, List, [], ◌∷◌, ℕ, ◌+◌, ◌*◌, ◌/◌, ◌%◌, eqb, ltb, ℤ, pos, get_or, replicate}
 use Rattle.base.specs.Cells.{laid}
 use Rattle.base.specs.Pick.{pick}
+use Rattle.landcover.specs.declared.Square.{Square}
 
 -- the kind of cover at a column and a row: a track one cell wide (11), a shore where neighbours differ (12 on), flat patches
 unfoldable pub cover_of : ℕ → ℕ → ℕ
@@ -52,6 +53,10 @@ rows = 0 ∷ 16 ∷ 0 ∷ 24 ∷ 20 ∷ 6 ∷ 8 ∷ 30 ∷ 32 ∷ 0 ∷ 0 ∷ 10
 
 unfoldable pub sizes : List ℕ
 sizes = 32 ∷ 32 ∷ 16 ∷ 16 ∷ 16 ∷ 16 ∷ 8 ∷ 8 ∷ 8 ∷ 8 ∷ 2 ∷ 2 ∷ []
+
+-- a square as three numbers
+abbrev pub listed : Square → List ℕ
+listed s = s.column ∷ s.row ∷ s.size ∷ []
 
 -- column, row and size of block k; zeros past the last
 unfoldable pub spot_of : ℕ → List ℕ

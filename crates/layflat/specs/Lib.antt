@@ -1,2 +1,3 @@
 pub mod Rest
 pub mod Front
+pub mod Numbers

@@ -1,6 +1,6 @@
 -- What is left to lay of a list, from place i on: its element there and the rest, and nothing at the end.
-use Rattle.std.specs.Prelude.{◌≡◌, refl, Bool, false, List, [], ◌∷◌, map, ℕ, suc, ◌+◌, ◌≤◌, ◌<◌, length, drop, get_or}
-use Rattle.std.proofs.Common.{ap, ◌∙◌, add-one, drop_of_length-le, drop-cons}
+use Rattle.std.specs.Prelude.{◌≡◌, Bool, false, List, [], ◌∷◌, map, ℕ, ◌+◌, ◌≤◌, ◌<◌, length, drop, get_or}
+use Rattle.std.proofs.Common.{ap, add-one, drop_of_length-le, drop-cons}
 use Rattle.h265.specs.Strings.{bit}
 use Rattle.model.specs.declared.Color.{Color}
 use Rattle.model.specs.declared.Levels.{Levels}

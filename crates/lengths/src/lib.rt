@@ -8,7 +8,7 @@ ghost use Rattle.sums.specs.Sums.{tb_sum, suffix_sum, run_from};
 
 use bins::{flog, pow2, suffixes};
 use rates::{RateModel, number};
-use sums::{row_of, run_sums};
+use sums::{RunSums, row_of, run_sums};
 
 // A sum with v of n values in truncated binary.
 fn tb_sum(sum: f32, n: u32, v: u32) -> f32
@@ -21,12 +21,14 @@ fn tb_sum(sum: f32, n: u32, v: u32) -> f32
     let k = flog(n);
     let bits = number(k);
     if v < pow2(k + 1) - n {
-        return sum + bits;
+        sum + bits
+    } else {
+        sum + bits + 1.0
     }
-    sum + bits + 1.0
 }
 
 // A sum with the suffix of a run of `more` further cells.
+// Stays two numbers, here and below: the definitions take them one by one.
 fn suffix_sum(sum: f32, longest: u32, more: u32) -> f32
     requires { (more ≤ longest) × (longest ≤ 1024) }
     ensures { result ≡ suffix_sum sum longest more }
@@ -43,16 +45,13 @@ fn prefix_of(more: u32) -> u32
     requires { more ≤ 1024 }
     ensures { (result ≡ prefix_of more) × (result < 12) }
 {
-    if more == 0 {
-        return 0;
-    }
-    flog(more) + 1
+    if more == 0 { 0 } else { flog(more) + 1 }
 }
 
 // The rate of a run's length, from the tables.
-pub fn run_from(short: &[f32; 48], full: &[f32; 48], row: usize, longest: u32, more: u32) -> f32
+pub fn run_from(sums: &RunSums, row: usize, longest: u32, more: u32) -> f32
     requires { (row < 4) × (more ≤ longest) × (longest ≤ 1024) }
-    ensures { result ≡ run_from short.now full.now row longest more }
+    ensures { result ≡ run_from sums.now.short sums.now.full row longest more }
 {
     if longest == 0 {
         return 0.0;
@@ -60,9 +59,10 @@ pub fn run_from(short: &[f32; 48], full: &[f32; 48], row: usize, longest: u32, m
     let k = prefix_of(more);
     let at = row * 12 + k as usize;
     if flog(longest) < k {
-        return suffix_sum(full[at], longest, more);
+        suffix_sum(sums.full[at], longest, more)
+    } else {
+        sums.short[at]
     }
-    short[at]
 }
 
 // The rate of a run's length: the sum over its bins.
@@ -70,8 +70,5 @@ pub fn run_bits(m: RateModel, longest: u32, above: bool, sent: u32, more: u32) -
     requires { (more ≤ longest) × (longest ≤ 1024) }
     ensures { result ≡ run_rate m longest above sent more }
 {
-    let s = run_sums(m);
-    let short = s.short;
-    let full = s.full;
-    run_from(&short, &full, row_of(above, sent), longest, more)
+    run_from(&run_sums(m), row_of(above, sent), longest, more)
 }

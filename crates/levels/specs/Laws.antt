@@ -1,5 +1,5 @@
 -- Levels and values are small.
-use Rattle.std.specs.Prelude.{◌≡◌, Bool, true, false, ℕ, ◌≤◌}
+use Rattle.std.specs.Prelude.{◌≡◌, true, ℕ, ◌≤◌}
 use Rattle.std.proofs.Common.{arith}
 use Rattle.h265.specs.EscapeLaws.{step_at-low, step_at-high}
 use Rattle.quant.specs.Quant.{y_of, u_of, v_of}

@@ -1,5 +1,5 @@
 -- Document 01: the levels of an escape cell, and what a cell decodes to.
-use Rattle.std.specs.Prelude.{Bool, true, false, not, List, ℕ, eqb, pos, get_or}
+use Rattle.std.specs.Prelude.{not, List, ℕ, eqb, pos, get_or}
 use Rattle.base.specs.Pick.{pick}
 use Rattle.h265.specs.Escape.{escape_value, step_at}
 use Rattle.quant.specs.Quant.{packed, y_of, u_of, v_of, level_of}

@@ -5,7 +5,7 @@ ghost use Rattle.std.specs.Prelude.{◌≡◌, Bool, true, false, ℕ, ◌<◌, 
 ghost use Rattle.base.specs.Pick.{pick};
 ghost use Rattle.base.specs.Cells.{laid};
 ghost use Rattle.h265.specs.Escape.{escape_value};
-ghost use Rattle.quant.specs.Quant.{packed, level_of};
+ghost use Rattle.quant.specs.Quant.{level_of};
 ghost use Rattle.model.specs.Domain.{config_in};
 ghost use Rattle.model.specs.Whole.{no_levels};
 ghost use Rattle.levels.specs.Levels.{scale_of, levels_of, levels_at, values_of, value_at};
@@ -33,8 +33,8 @@ pub fn scale_of(c: PaletteConfig) -> Scale
     let sy = quant::step(c.qp_y);
     let su = quant::step(c.qp_cb);
     let sv = quant::step(c.qp_cr);
-    let ym = domain::most_in(c.bd_luma) as u64;
-    let cm = domain::most_in(c.bd_chroma) as u64;
+    let ym = u64::from(domain::most_in(c.bd_luma));
+    let cm = u64::from(domain::most_in(c.bd_chroma));
     Scale {
         lossless: c.lossless,
         chroma: c.chroma_idc != 0,
@@ -52,12 +52,14 @@ fn one_level(used: bool, lossless: bool, step: u64, most: u64, v: u64) -> u16
     ensures { result ≡ pick used (level_of lossless step most v) 0 }
 {
     if used {
-        return quant::quantize_escape(lossless, step, most, v) as u16;
+        quant::quantize_escape(lossless, step, most, v) as u16
+    } else {
+        0
     }
-    0
 }
 
 // The levels of a colour.
+#[tactic(auto, unfolding(crate::specs::Levels::levels_of))]
 pub fn levels_of(s: Scale, e: u64) -> Levels
     requires { Fit s × Small e }
     ensures { result ≡ levels_of s e }
@@ -69,14 +71,16 @@ pub fn levels_of(s: Scale, e: u64) -> Levels
 }
 
 // The levels of a cell of index k; 0 where it is no escape.
+#[tactic(auto, unfolding(crate::specs::Levels::levels_at))]
 fn cell_levels(s: Scale, n: usize, k: u8, e: u64) -> Levels
     requires { Fit s × Small e }
     ensures { result ≡ levels_at s n k e }
 {
-    if k as usize == n {
-        return levels_of(s, e);
+    if usize::from(k) == n {
+        levels_of(s, e)
+    } else {
+        Levels { y: 0, cb: 0, cr: 0 }
     }
-    Levels { y: 0, cb: 0, cr: 0 }
 }
 
 // The levels of the first m cells; those past them stay.
@@ -92,32 +96,22 @@ pub fn levels(
     ensures { result ≡ laid (λ j. levels_at s n (get_or indices.now j 0) (get_or cells.now j 0)) escapes 0 m }
 {
     let mut out = escapes;
-    let mut i: usize = 0;
-    while i < m {
-        let l = cell_levels(s, n, indices[i], cells[i]);
-        out[i] = l;
-        i += 1;
+    for i in 0..m {
+        out[i] = cell_levels(s, n, indices[i], cells[i]);
     }
     out
 }
 
-// Three components as one number.
-fn pack3(y: u64, u: u64, v: u64) -> u64
-    requires { (y ≤ 65535) × (u ≤ 65535) × (v ≤ 65535) }
-    ensures { result ≡ packed y u v }
-{
-    y + 65536 * u + 4294967296 * v
-}
-
 // The value of one component's level.
-fn one_value(lossless: bool, step: u64, most: u64, level: u16) -> u64
+fn one_value(lossless: bool, step: u64, most: u64, level: u16) -> u16
     requires { (step ≤ 294912) × (most ≤ 65535) }
-    ensures { (result ≡ escape_value lossless step most (pos level)) × (result ≤ 65535) }
+    ensures { result ≡ escape_value lossless step most (pos level) }
 {
-    quant::dequant_escape(lossless, step, most, level as i32)
+    quant::dequant_escape(lossless, step, most, i32::from(level)) as u16
 }
 
 // The colour that levels decode to.
+#[tactic(auto, unfolding(crate::specs::Levels::values_of))]
 pub fn values_of(s: Scale, l: Levels) -> u64
     requires { Fit s }
     ensures { result ≡ values_of s l }
@@ -125,7 +119,7 @@ pub fn values_of(s: Scale, l: Levels) -> u64
     let y = one_value(s.lossless, s.sy, s.ym, l.y);
     let u = one_value(s.lossless, s.su, s.cm, l.cb);
     let v = one_value(s.lossless, s.sv, s.cm, l.cr);
-    pack3(y, u, v)
+    entries::pack(y, u, v)
 }
 
 // Entry k; 0 past the array.
@@ -133,22 +127,21 @@ pub fn entry(palette: &[u64; 64], k: usize) -> u64
     requires { length palette.now ≡ 64 }
     ensures { result ≡ get_or palette.now k 0 }
 {
-    if k < 64 {
-        return palette[k];
-    }
-    0
+    palette.get(k).copied().unwrap_or(0)
 }
 
 // The colour that a cell of index k decodes to.
+#[tactic(auto, unfolding(crate::specs::Levels::value_at))]
 fn cell_value(s: Scale, palette: &[u64; 64], n: usize, k: u8, l: Levels) -> u64
     requires { Fit s × (length palette.now ≡ 64) }
     ensures { result ≡ value_at s palette.now n k l }
 {
-    let i = k as usize;
+    let i = usize::from(k);
     if i == n {
-        return values_of(s, l);
+        values_of(s, l)
+    } else {
+        entry(palette, i)
     }
-    entry(palette, i)
 }
 
 // What the first m cells decode to.
@@ -164,11 +157,7 @@ pub fn values(
     requires { Fit s × (m ≤ 1024) × (length palette.now ≡ 64) }
     ensures { out.new ≡ laid (λ j. value_at s palette.now n (get_or indices.now j 0) (get_or escapes j no_levels)) out.old 0 m }
 {
-    let mut i: usize = 0;
-    while i < m {
-        let l = escapes[i];
-        let v = cell_value(s, palette, n, indices[i], l);
-        out[i] = v;
-        i += 1;
+    for i in 0..m {
+        out[i] = cell_value(s, palette, n, indices[i], escapes[i]);
     }
 }

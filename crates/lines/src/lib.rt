@@ -1,14 +1,15 @@
 // The lines of a listing, laid in a lent list of bytes. What would lie past the list's end is counted and not stored.
+// Stays without `Display` and `write!`, as crate digits says.
 #![tactic(auto)]
 
-ghost use Rattle.std.specs.Prelude.{◌++◌, ◌+◌, ◌^◌, ◌≤◌, ◌<◌, length, take};
+ghost use Rattle.std.specs.Prelude.{◌++◌, ◌+◌, ◌^◌, ◌≤◌, ◌<◌, length};
 ghost use Rattle.base.specs.Laid.{Laid};
 ghost use Rattle.digits.specs.Decimal.{decimal};
 ghost use Rattle.lines.specs.Lines.{refused_line, block_line, run_line, run_lines};
 
 use digits::put_decimal;
+use laying::put;
 use model::PaletteRun;
-use put::put_bin;
 
 // A text.
 fn put_text(list: &mut [u8], at: usize, text: &[u8]) -> usize
@@ -16,10 +17,8 @@ fn put_text(list: &mut [u8], at: usize, text: &[u8]) -> usize
     ensures { Laid list.old at text.now result list.new }
 {
     let mut to = at;
-    let mut i: usize = 0;
-    while i < text.len() {
-        to = put_bin(list, to, text[i]);
-        i += 1;
+    for byte in text {
+        to = put(list, to, *byte);
     }
     to
 }
@@ -40,9 +39,9 @@ pub fn put_refused(list: &mut [u8], at: usize, no: u8, place: usize) -> usize
     ensures laid { Laid list.old at (refused_line no place) result list.new }
     ensures near { result ≤ at + 53 }
 {
-    let p = put_field(list, at, b"refused ", no as u64);
+    let p = put_field(list, at, b"refused ", u64::from(no));
     let q = put_field(list, p, b" at ", place as u64);
-    put_bin(list, q, 10)
+    put(list, q, b'\n')
 }
 
 // The first line of a block.
@@ -61,10 +60,10 @@ pub fn put_block(
 {
     let p = put_field(list, at, b"block ", size as u64);
     let q = put_field(list, p, b" palette ", palette as u64);
-    let r = put_field(list, q, b" escape ", escape as u64);
-    let s = put_field(list, r, b" transpose ", transpose as u64);
+    let r = put_field(list, q, b" escape ", u64::from(escape));
+    let s = put_field(list, r, b" transpose ", u64::from(transpose));
     let t = put_field(list, s, b" bins ", bins as u64);
-    put_bin(list, t, 10)
+    put(list, t, b'\n')
 }
 
 // The line of a run.
@@ -73,31 +72,28 @@ fn put_run(list: &mut [u8], at: usize, run: PaletteRun) -> usize
     ensures laid { Laid list.old at (run_line run) result list.new }
     ensures near { result ≤ at + 69 }
 {
-    let start = run.start as u64;
-    let cells = run.more as u64 + 1;
+    let start = u64::from(run.start);
+    let cells = u64::from(run.more) + 1;
     if run.above {
         let p = put_field(list, at, b"above ", start);
         let q = put_field(list, p, b" ", cells);
-        return put_bin(list, q, 10);
+        return put(list, q, b'\n');
     }
     let p = put_field(list, at, b"index ", start);
     let q = put_field(list, p, b" ", cells);
-    let r = put_field(list, q, b" ", run.sent as u64);
-    put_bin(list, r, 10)
+    let r = put_field(list, q, b" ", u64::from(run.sent));
+    put(list, r, b'\n')
 }
 
-// The lines of the first `count` runs.
-pub fn put_runs(list: &mut [u8], at: usize, runs: [PaletteRun; 1024], count: usize) -> usize
-    requires { (count ≤ 1024) × (at < 2 ^ 59) }
-    ensures laid { Laid list.old at (run_lines (take count runs)) result list.new }
+// The lines of runs.
+pub fn put_runs(list: &mut [u8], at: usize, runs: &[PaletteRun]) -> usize
+    requires { (length runs.now ≤ 1024) × (at < 2 ^ 59) }
+    ensures laid { Laid list.old at (run_lines runs.now) result list.new }
     ensures near { result ≤ at + 70656 }
 {
     let mut to = at;
-    let mut i: usize = 0;
-    while i < count {
-        let run = runs[i];
-        to = put_run(list, to, run);
-        i += 1;
+    for run in runs {
+        to = put_run(list, to, *run);
     }
     to
 }

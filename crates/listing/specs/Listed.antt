@@ -1,5 +1,5 @@
 -- What a listing says of the bins: where a block is listed, its bins are those that the writer lays for it, and its lines cover the scan.
-use Rattle.std.specs.Prelude.{◌≡◌, true, false, List, [], ◌++◌, ℕ, ◌+◌, ◌*◌, ◌-◌, ◌<◌, eqb, length, take, drop}
+use Rattle.std.specs.Prelude.{◌≡◌, true, false, List, [], ◌++◌, ℕ, ◌*◌, ◌<◌, eqb, length, take, drop}
 use Rattle.std.proofs.Common.{ap, sym, arith, length-append, take_at}
 use Rattle.base.specs.Answer.{Value}
 use Rattle.h265.specs.Reuse.{trues}

@@ -9,8 +9,7 @@ use Rattle.syntax.proofs.BlockLaws.{block_code}
 use Rattle.syntax.specs.PaletteLaws.{CallOk}
 use Rattle.syntax.specs.Records.{no_run}
 use Rattle.syntax.specs.Runs.{Run, Keeps}
-use Rattle.readblock.specs.declared.BlockRead.{BlockRead}
-use Rattle.readblock.specs.Read.{cu_read, refused_of, answer_of}
+use Rattle.readblock.specs.Read.{BlockRead, cu_read, refused_of, answer_of}
 use Rattle.read.specs.Named.{Named, read_named}
 use Rattle.read.specs.ReadLaws.{read_held, read_array, read_taken}
 use Rattle.read.specs.Reading.{read_answer, read_of, call_with}

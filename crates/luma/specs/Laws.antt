@@ -1,5 +1,5 @@
 -- The laws of the pre-check: its flags count the values met, and it never changes the answer.
-use Rattle.std.specs.Prelude.{Bool, true, false, List, [], ◌∷◌, ◌++◌, ◌≡◌, refl, ℕ, ◌+◌, ◌-◌, ◌*◌, ◌/◌, ◌≤◌, ◌<◌, min, ltb, length, get_or, set, replicate}
+use Rattle.std.specs.Prelude.{Bool, true, false, List, [], ◌∷◌, ◌++◌, ◌≡◌, refl, ℕ, ◌+◌, ◌-◌, ◌*◌, ◌/◌, ◌≤◌, ◌<◌, min, ltb, length, get_or, replicate}
 use Rattle.std.proofs.Common.{⊎_elim, sym, ◌∙◌, arith, lt-ltb, le-ltb, length-set, length-append, get_or-set_same, get_or-set_other}
 use Rattle.std.proofs.lemmas.List.{get_or-replicate}
 use Rattle.base.specs.Pick.{lt_or_le, eq_or_ne}

@@ -1,7 +1,8 @@
 -- One step of the loop that measures the cells, from the last one back.
-use Rattle.std.specs.Prelude.{◌≡◌, Bool, true, false, List, [], ◌∷◌, ℕ, zero, suc, ◌+◌, ◌*◌, ◌-◌, ◌/◌, ◌≤◌, ◌<◌, eqb, leb, ltb, get_or, set}
+use Rattle.std.specs.Prelude.{◌≡◌, Bool, List, [], ◌∷◌, ℕ, zero, suc, ◌+◌, ◌*◌, ◌-◌, ◌/◌, ◌≤◌, ◌<◌, eqb, leb, get_or, set, length, ◌++◌, replicate, drop}
 use Rattle.std.proofs.Math.Path.{refl}
-use Rattle.std.proofs.Common.{ap, sym, ◌∙◌, suc-mul, add-mul, one-mul, zero-mul}
+use Rattle.std.proofs.lemmas.List.Edits.{fill_none, fill_more}
+use Rattle.std.proofs.Common.{sym, ◌∙◌, add-one, suc-mul, add-mul, one-mul, zero-mul}
 use Rattle.std.proofs.Math.Logic.{⊎_elim}
 use native.Mathlib.Omega.{arith}
 use Rattle.std.proofs.Math.Arith.{digits_div}
@@ -9,7 +10,7 @@ use borrow.Author.Tests.{eq-eqb, ne_eqb, eqb-true, eqb-false, lt-ltb, le-ltb, le
 use Rattle.base.specs.Cells.{laid, laid_same, laid-back}
 use Rattle.base.specs.Pick.{pick, either, lt_or_le}
 use Rattle.base.specs.Tests.{every, pick_test}
-use Rattle.h265.specs.Scan.{place_above, above_at}
+use Rattle.h265.specs.Scan.{above_at}
 use Rattle.h265.specs.ScanLaws.{above-closed}
 use Rattle.paths.specs.Cells.{copies, lasts, index_length, above_length}
 use Rattle.paths.specs.CellLaws.{index_same, index-last, index-other, above-yes, above_no, above_zero, above-some}
@@ -27,6 +28,12 @@ next_row row size = sym (add-mul row 1 size ∙ rw one-mul)
 pub above_low : (size : ℕ) (xs : List ℕ) (i : ℕ) → i < size → 0 ≡ above_at size xs i
 unfolding above_at
 above_low size xs i h = rw (lt-ltb i size h)
+
+-- the first cells set to one number
+pub laid_fill : (v : ℕ) (l : List ℕ) (n : ℕ) → n ≤ length l → replicate n v ++ drop n l ≡ laid (λ i. v) l 0 n
+unfolding laid
+laid_fill v l zero h = sym (fill_none l v)
+laid_fill v l (suc n) h = let z : 0 + n ≡ n = omega arith in rw (z, ← laid_fill v l n (omega arith)) (sym (rw add-one at (fill_more n v l h)))
 
 -- row 0
 pub first-row : (size row : ℕ) (xs l : List ℕ) → row ≡ 0 → laid (λ i. 0) l 0 size ≡ laid (above_at size xs) l (row * size) size

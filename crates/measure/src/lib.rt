@@ -9,16 +9,21 @@ ghost use Rattle.paths.specs.Cells.{index_length, above_length};
 ghost use Rattle.paths.specs.Stretch.{next_stretch};
 ghost use Rattle.measure.specs.Steps.{stretch_step};
 
+// How far an index goes on from each cell, how many cells can be copied from it on, and where the next stretch begins.
+#[derive(Clone, Copy)]
+pub struct Lengths {
+    pub index: [u16; 1026],
+    pub above: [u16; 1026],
+    pub next: [u16; 1026],
+}
+
 // Row 0, which has no cells above: 0.
+// Stays an array, here and in the rows below: size is the side of the block in it.
 fn first_row(above: &mut [u8; 1024], size: usize)
     requires { size ≤ 32 }
     ensures { above.new ≡ laid (λ i. 0) above.old 0 size }
 {
-    let mut j: usize = 0;
-    while j < size {
-        above[j] = 0;
-        j += 1;
-    }
+    above[..size].fill(0);
 }
 
 // A later row: each cell above stands as far before the row's start as its own cell stands after it.
@@ -27,10 +32,8 @@ fn later_row(xs: &[u8; 1024], above: &mut [u8; 1024], size: usize, row: usize)
     ensures { above.new ≡ laid (above_at size xs.now) above.old (row * size) size }
 {
     let start = row * size;
-    let mut j: usize = 0;
-    while j < size {
+    for j in 0..size {
         above[start + j] = xs[start - 1 - j];
-        j += 1;
     }
 }
 
@@ -41,9 +44,9 @@ fn above_row(xs: &[u8; 1024], above: &mut [u8; 1024], size: usize, row: usize)
 {
     if row == 0 {
         first_row(above, size);
-        return;
+    } else {
+        later_row(xs, above, size, row);
     }
-    later_row(xs, above, size, row);
 }
 
 // The index above each cell, 0 in row 0.
@@ -51,10 +54,8 @@ pub fn fill_above(xs: &[u8; 1024], above: &mut [u8; 1024], size: usize)
     requires { size ≤ 32 }
     ensures { above.new ≡ laid (above_at size xs.now) above.old 0 (size * size) }
 {
-    let mut row: usize = 0;
-    while row < size {
+    for row in 0..size {
         above_row(xs, above, size, row);
-        row += 1;
     }
 }
 
@@ -63,10 +64,7 @@ fn index_step(v: u8, next: u8, len: u16) -> u16
     requires { len ≤ 1024 }
     ensures { result ≡ pick (eqb v next) (len + 1) 1 }
 {
-    if v == next {
-        return len + 1;
-    }
-    1
+    if v == next { len + 1 } else { 1 }
 }
 
 // How many cells can be copied from a cell on, from the cell after it.
@@ -74,69 +72,44 @@ fn above_step(here: bool, len: u16) -> u16
     requires { len ≤ 1024 }
     ensures { result ≡ pick here (len + 1) 0 }
 {
-    if here {
-        return len + 1;
-    }
-    0
+    if here { len + 1 } else { 0 }
 }
 
 // Where the next stretch begins from p on: p itself, or where it does from the cell after.
 fn stretch_step(below: bool, len: u16, p: u16, after: u16) -> u16
     ensures { result ≡ stretch_step below len p after }
 {
-    if len == 0 {
-        return after;
-    }
-    if below {
-        return after;
-    }
-    p
+    if len == 0 || below { after } else { p }
 }
 
-// How far the index goes on from each cell, how many cells can be copied, and where the next stretch begins: the later rows, then row 0, where none can be copied.
+// How far the index goes on from each cell, how many cells can be copied, and where the next stretch begins: from the last cell back. In row 0 none can be copied.
+// Stays arrays with n beside: the lengths go one place past the cells.
 pub fn fill_lengths(
     xs: &[u8; 1024],
     above: &[u8; 1024],
-    index_len: &mut [u16; 1026],
-    above_len: &mut [u16; 1026],
-    next: &mut [u16; 1026],
+    lengths: &mut Lengths,
     size: usize,
     n: usize,
 )
     requires { (n ≤ 1024) × ((i : ℕ) → i < n → get_or above.now i 0 ≡ above_at size xs.now i) }
-    ensures { (index_len.new ≡ laid (index_length n xs.now) index_len.old 0 n)
-        × (above_len.new ≡ laid (above_length size n xs.now) above_len.old 0 (n + 1))
-        × (next.new ≡ laid (next_stretch size n xs.now) next.old 1 n) }
+    ensures { (lengths.new.index ≡ laid (index_length n xs.now) lengths.old.index 0 n)
+        × (lengths.new.above ≡ laid (above_length size n xs.now) lengths.old.above 0 (n + 1))
+        × (lengths.new.next ≡ laid (next_stretch size n xs.now) lengths.old.next 1 n) }
 {
-    let mut p = n;
     let mut after: u8 = 0;
     let mut run: u16 = 0;
     let mut copied: u16 = 0;
     let mut stretch = n as u16;
-    while size < p {
-        let q = p;
-        p -= 1;
+    for p in (0..n).rev() {
         let v = xs[p];
         run = index_step(v, after, run);
-        index_len[p] = run;
+        lengths.index[p] = run;
         after = v;
-        let here = v == above[p];
-        stretch = stretch_step(here, copied, q as u16, stretch);
-        next[q] = stretch;
+        let here = (size <= p) & (v == above[p]);
+        stretch = stretch_step(here, copied, (p + 1) as u16, stretch);
+        lengths.next[p + 1] = stretch;
         copied = above_step(here, copied);
-        above_len[p] = copied;
+        lengths.above[p] = copied;
     }
-    while 0 < p {
-        let q = p;
-        p -= 1;
-        let v = xs[p];
-        run = index_step(v, after, run);
-        index_len[p] = run;
-        after = v;
-        stretch = stretch_step(false, copied, q as u16, stretch);
-        next[q] = stretch;
-        copied = 0;
-        above_len[p] = 0;
-    }
-    above_len[n] = 0;
+    lengths.above[n] = 0;
 }

@@ -2,7 +2,7 @@
 #![tactic(auto)]
 
 // A palette entry: luma and two chroma components.
-#[derive(Clone, Copy)]
+#[derive(Clone, Copy, PartialEq, Eq)]
 pub struct Color {
     pub y: u16,
     pub cb: u16,
@@ -10,7 +10,7 @@ pub struct Color {
 }
 
 // The escape levels of a cell.
-#[derive(Clone, Copy)]
+#[derive(Clone, Copy, PartialEq, Eq)]
 pub struct Levels {
     pub y: u16,
     pub cb: u16,
@@ -18,7 +18,7 @@ pub struct Levels {
 }
 
 // What is fixed for a picture: component count, format, depths, QPs, lossless or not.
-#[derive(Clone, Copy)]
+#[derive(Clone, Copy, PartialEq, Eq)]
 pub struct PaletteConfig {
     pub num_comps: usize,
     pub chroma_idc: u8,
@@ -31,7 +31,7 @@ pub struct PaletteConfig {
 }
 
 // The sides of the planes, and where the block lies in the picture.
-#[derive(Clone, Copy)]
+#[derive(Clone, Copy, PartialEq, Eq)]
 pub struct SourceBlock {
     pub yw: usize,
     pub yh: usize,
@@ -71,7 +71,7 @@ pub struct PalettePredictor {
 }
 
 // A run along the scan: copy-above or not, index sent, length - 1, start.
-#[derive(Clone, Copy)]
+#[derive(Clone, Copy, PartialEq, Eq)]
 pub struct PaletteRun {
     pub above: bool,
     pub sent: u32,

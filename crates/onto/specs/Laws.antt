@@ -1,11 +1,11 @@
 -- Row after row is the plane afterwards; what the block covers, and what it leaves.
-use Rattle.std.specs.Prelude.{Bool, true, false, List, [], ◌∷◌, ◌≡◌, refl, ℕ, zero, suc, ◌+◌, ◌*◌, ◌-◌, ◌/◌, ◌%◌, ◌≤◌, ◌<◌, min, eqb, ltb, leb, get_or, length}
-use Rattle.std.proofs.Common.{⊎_elim, ap, sym, ◌∙◌, add-one, arith, mul-le-mul, mul_comm, div-add-mod', ext_get_or, ltb-true, leb-true, lt-ltb, le-leb}
+use Rattle.std.specs.Prelude.{Bool, true, false, List, ◌≡◌, refl, ℕ, zero, suc, ◌+◌, ◌*◌, ◌-◌, ◌/◌, ◌%◌, ◌≤◌, ◌<◌, min, ltb, leb, get_or, length}
+use Rattle.std.proofs.Common.{⊎_elim, ap, sym, ◌∙◌, add-one, arith, mul_comm, div-add-mod', ext_get_or, ltb-true, leb-true, lt-ltb, le-leb}
 use Rattle.std.proofs.Math.Arith.{digits_div, digits_mod}
 use Rattle.base.specs.Pick.{pick, either, true_false, lt_or_le}
 use Rattle.base.specs.Cells.{laid, laid_same, laid-length, laid-before, laid_in, laid-after, row_fits}
-use Rattle.base.specs.Tests.{every, both}
-use Rattle.h265.specs.Scan.{scan_at, along}
+use Rattle.base.specs.Tests.{both}
+use Rattle.h265.specs.Scan.{scan_at}
 use Rattle.h265.specs.ScanLaws.{along_lt}
 use Rattle.onto.specs.declared.Onto.{Onto}
 use Rattle.onto.specs.Onto.{part_of, cell_of, covers, after_at, after}
@@ -127,7 +127,7 @@ pub put_none : (o : Onto) (f : ℕ → ℕ → ℕ) (plane : List ℕ) → rows_
 unfolding rows_put
 put_none o f plane = refl
 
-put_next : (o : Onto) (f : ℕ → ℕ → ℕ) (plane : List ℕ) (y : ℕ) → rows_put o f plane (y + 1) ≡ laid (row_value o f y) (rows_put o f plane y) (row_start o y) (columns o)
+pub put_next : (o : Onto) (f : ℕ → ℕ → ℕ) (plane : List ℕ) (y : ℕ) → rows_put o f plane (y + 1) ≡ laid (row_value o f y) (rows_put o f plane y) (row_start o y) (columns o)
 unfolding rows_put
 put_next o f plane y = rw add-one
 
@@ -142,8 +142,8 @@ place_before o x y r h l =
     let k : o.oy + y < o.oy + r = omega arith in
     omega (arith, row_fits (o.oy + y) o.stride (o.oy + r) k)
 
-row-end : (o : Onto) (y n : ℕ) → y < rows o → 1 ≤ columns o → o.stride * o.height ≤ n → row_start o y + columns o ≤ n
-row-end o y n h c m =
+pub row_end : (o : Onto) (y n : ℕ) → y < rows o → 1 ≤ columns o → o.stride * o.height ≤ n → row_start o y + columns o ≤ n
+row_end o y n h c m =
     let k : o.oy + y < o.height = omega arith in
     omega (arith, row_fits (o.oy + y) o.stride o.height k, mul_comm o.stride o.height)
 
@@ -160,7 +160,7 @@ put_placed o f plane (suc n) h c m =
     let b = put_placed o f plane n (omega arith) c m in
     let l = rows_put o f plane n in
     let v = row_value o f n in
-    let e : row_start o n + columns o ≤ length l = rw b.same_length (row-end o n (length plane) (omega arith) c m) in
+    let e : row_start o n + columns o ≤ length l = rw b.same_length (row_end o n (length plane) (omega arith) c m) in
     record {
       same_length = laid-length v l (row_start o n) (columns o) ∙ b.same_length;
       inside =
@@ -205,18 +205,6 @@ put_all o f plane out n e h c m = e ∙ rw h (placed-after o f plane (rows_put o
 pub put_beside : (o : Onto) (f : ℕ → ℕ → ℕ) (plane : List ℕ) → columns o ≡ 0 → plane ≡ after o f plane
 put_beside o f plane h =
     placed-after o f plane plane (record { same_length = refl; inside = λ x y k q. absurd (omega arith); outside = λ p k. refl })
-
--- what a row loop lays at place j; its row starts at place `at`
-abbrev pub stretch : ℕ → List ℕ → Bool → ℕ → ℕ → ℕ → ℕ → ℕ → ℕ
-stretch comp values transpose size y across at j = part_of comp (get_or values (cell_of transpose size ((j - at) * across) y) 0)
-
-pub stretch-at : (comp : ℕ) (values : List ℕ) (transpose : Bool) (size y across at k : ℕ) → part_of comp (get_or values (cell_of transpose size (k * across) y) 0) ≡ stretch comp values transpose size y across at (at + k)
-stretch-at comp values transpose size y across at k = let e : at + k - at ≡ k = omega arith in rw e
-
--- one turn of the loop over rows
-pub put_turn : (o : Onto) (values plane out out' : List ℕ) (y at ly count : ℕ) → out ≡ rows_put o (from_cells o values) plane y → at ≡ row_start o y → ly ≡ y * o.down → count ≡ columns o
-    → out' ≡ laid (stretch o.comp values o.transpose o.size ly o.across at) out at count → out' ≡ rows_put o (from_cells o values) plane (y + 1)
-put_turn o values plane out out' y at ly count e a f k h = h ∙ rw (e, a, f, k) (sym (put_next o (from_cells o values) plane y))
 
 -- ---- cells
 

@@ -1,5 +1,5 @@
 -- H.265, 8.4.4.2.7: a block on a plane. The block covers `wide` columns and `high` rows of it from column `ox`, row `oy` on; there is a sample every `across` columns and `down` rows of luma.
-use Rattle.std.specs.Prelude.{Bool, true, false, List, [], ◌∷◌, ℕ, ◌+◌, ◌*◌, ◌-◌, ◌/◌, ◌%◌, eqb, ltb, leb, get_or, length}
+use Rattle.std.specs.Prelude.{Bool, List, [], ◌∷◌, ℕ, ◌+◌, ◌*◌, ◌-◌, ◌/◌, ◌%◌, eqb, ltb, leb, get_or, length}
 use Rattle.base.specs.Pick.{pick}
 use Rattle.base.specs.Cells.{laid}
 use Rattle.base.specs.Tests.{every}

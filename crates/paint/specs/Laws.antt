@@ -1,5 +1,5 @@
 -- The laws of a palette: its sizes, and that the arrays' first elements are all that it looks at.
-use Rattle.std.specs.Prelude.{List, [], ◌∷◌, ◌++◌, map, ◌≡◌, ℕ, ◌+◌, ◌≤◌, ◌<◌, get_or, set, take}
+use Rattle.std.specs.Prelude.{List, [], ◌∷◌, map, ◌≡◌, ℕ, ◌+◌, ◌≤◌, ◌<◌, get_or, set, take}
 use Rattle.std.proofs.lemmas.List.{map-append}
 use Rattle.std.proofs.Math.Path.{refl, sym, ap}
 use Rattle.std.proofs.Common.{◌∙◌, arith, add-one, take-suc}
@@ -8,13 +8,14 @@ use Rattle.std.proofs.Math.Seq.{get_or-take, length-take-le}
 use Rattle.base.specs.Alls.{all_by, all-at, all_map}
 use Rattle.base.specs.Codes.{All}
 use Rattle.base.specs.Counted.{push}
-use Rattle.base.specs.Lists.{padded, padded-take, padded-length, map_ext}
+use Rattle.base.specs.Lists.{padded, padded-take, map_ext}
 use Rattle.h265.specs.Reuse.{trues, flagged}
 use Rattle.order.specs.Order.{count_in, ordered}
 use Rattle.order.specs.Laws.{ordered-below, ordered-length, ordered_ext}
+use Rattle.reps.specs.declared.Reps.{Reps}
 use Rattle.reps.specs.Reps.{reps, listed}
 use Rattle.reps.specs.Laws.{reps-some, reps-all, reps_ext}
-use Rattle.choose.specs.Choose.{Chosen, chosen}
+use Rattle.choose.specs.Choose.{chosen}
 use Rattle.choose.specs.Laws.{palette_size, palette_le, flags_length, starts, trues_le, chosen-all}
 use Rattle.paint.specs.Paint.{colour_in, in_order, palette_of}
 
@@ -82,3 +83,17 @@ module _ (ms cs : List ℕ) (d : ℕ) (a : d ≤ length ms) (b : d ≤ length cs
       → chosen tol es (take (listed (reps tol limit out d)).count (listed (reps tol limit out d)).list) ≡ palette_of tol limit es (take d ms) (take d cs)
   unfolding palette_of
   painted tol limit es os out s e f = ap (chosen tol es) (padded-take 64 0 (reps tol limit out d) (length (reps tol limit out d)) refl ∙ gathered tol limit os out s e f)
+
+-- from what the four steps gave: the order, the colours gathered along it, and their representatives
+module _ (tol limit : ℕ) (es ms cs os out : List ℕ) (same : length cs ≡ length ms) (a : os ≡ padded 128 0 (ordered (count_in cs) (length cs))) (b : take (length (take (length ms) os)) out ≡ map (colour_in ms) (take (length ms) os)) where
+  pub painted_all : (found : Reps) → found ≡ listed (reps tol limit (take (length ms) out) (length (take (length ms) out))) → chosen tol es (take found.count found.list) ≡ palette_of tol limit es ms cs
+  unfolding palette_of in_order
+  painted_all found v =
+      let o = ordered (count_in cs) (length ms) in
+      let rs = reps tol limit (map (colour_in ms) o) (length ms) in
+      let q : take (length ms) os ≡ o = rw (a, same) (padded-take 128 0 o (length ms) (ordered-length (count_in cs) (length ms))) in
+      let n : length (take (length ms) os) ≡ length ms = ap length q ∙ ordered-length (count_in cs) (length ms) in
+      let g : take (length ms) out ≡ map (colour_in ms) o = rw (n, q) at b in
+      let m : length (take (length ms) out) ≡ length ms = ap length g ∙ length-map o (colour_in ms) ∙ ordered-length (count_in cs) (length ms) in
+      let r : found ≡ listed rs = v ∙ (λ i. listed (reps tol limit (g i) (m i))) in
+      ap (λ (z : Reps). chosen tol es (take z.count z.list)) r ∙ ap (chosen tol es) (padded-take 64 0 rs (length rs) refl)

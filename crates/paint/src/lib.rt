@@ -1,55 +1,39 @@
 // Palette and flags of a block, from its colours and their counts.
 #![tactic(auto)]
 
-ghost use Rattle.std.specs.Prelude.{◌≡◌, List, map, ℕ, ◌≤◌, length, take};
+ghost use Rattle.std.specs.Prelude.{◌≡◌, map, ◌≤◌, length, take};
 ghost use Rattle.choose.specs.Choose.{painting_of};
 ghost use Rattle.paint.specs.Paint.{colour_in, palette_of};
 
 use choose::Painting;
 
 // The colour of a number; 0 past the end.
-fn colour_at(met: &[u64; 128], k: u16) -> u64
-    requires { length met.now ≡ 128 }
+fn colour_at(met: &[u64], k: u16) -> u64
     ensures { result ≡ colour_in met.now k }
 {
-    let i = k as usize;
-    if i < 128 {
-        return met[i];
-    }
-    0
+    met.get(usize::from(k)).copied().unwrap_or(0)
 }
 
-// The colours in order.
-fn gather(met: &[u64; 128], order: &[u16; 128], d: usize) -> [u64; 128]
-    requires { (d ≤ 128) × (length met.now ≡ 128) × (length order.now ≡ 128) }
-    ensures { take d result ≡ map (colour_in met.now) (take d order.now) }
+// The colours in order; 0 behind them.
+fn gather(met: &[u64], order: &[u16]) -> [u64; 128]
+    requires { length order.now ≤ 128 }
+    ensures { take (length order.now) result ≡ map (colour_in met.now) order.now }
 {
-    let mut out: [u64; 128] = [0; 128];
-    let mut i: usize = 0;
-    while i < d {
-        let x = colour_at(met, order[i]);
-        out[i] = x;
-        i += 1;
+    let mut out = [0; 128];
+    for (i, k) in order.iter().enumerate() {
+        out[i] = colour_at(met, *k);
     }
     out
 }
 
-// The palette of d colours with their counts, from np predictor entries, at most limit entries long.
-pub fn paint(
-    met: [u64; 128],
-    counts: [u32; 128],
-    d: usize,
-    tol: u64,
-    limit: usize,
-    entries: [u64; 128],
-    np: usize,
-) -> Painting
-    requires { (d ≤ 128) × (limit ≤ 64) × (np ≤ 128) }
-    ensures { result ≡ painting_of (palette_of tol limit (take np entries) (take d met) (take d counts)) }
+// The palette of colours with their counts, from the predictor's entries, at most limit entries long.
+pub fn paint(met: &[u64], counts: &[u32], tol: u64, limit: usize, entries: &[u64]) -> Painting
+    requires met_len { (length met.now ≤ 128) × (length counts.now ≡ length met.now) }
+    requires limit_bound { (limit ≤ 64) × (length entries.now ≤ 128) }
+    ensures { result ≡ painting_of (palette_of tol limit entries.now met.now counts.now) }
 {
-    let sorted = order::sort(&counts, d);
-    let colours = gather(&met, &sorted, d);
-    let found = reps::representatives(&colours, d, limit, tol);
-    let list = found.list;
-    choose::choose(&entries, np, list, found.count, tol)
+    let order = order::sort(counts);
+    let colours = gather(met, &order[..met.len()]);
+    let found = reps::representatives(&colours[..met.len()], limit, tol);
+    choose::choose(entries, found, tol)
 }

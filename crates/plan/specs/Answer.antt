@@ -1,5 +1,5 @@
 -- The planner's answer: refusals in order, nothing to code, or the runs with their count and total.
-use Rattle.std.specs.Prelude.{◌≡◌, Bool, true, false, List, [], ◌∷◌, ℕ, ◌*◌, eqb, leb, length}
+use Rattle.std.specs.Prelude.{List, [], ◌∷◌, ℕ, ◌*◌, eqb, leb, length}
 use Rattle.base.specs.Pick.{pick}
 use Rattle.base.specs.Tests.{refusal}
 use Rattle.model.specs.declared.PaletteCu.{PaletteCu}
@@ -9,9 +9,7 @@ use Rattle.rates.specs.declared.RateModel.{RateModel}
 use Rattle.rates.specs.Rates.{rates_in}
 use Rattle.paths.specs.Plan.{Job, job, price_of, planned}
 use Rattle.finish.specs.Found.{laid_runs}
-use Rattle.plan.specs.declared.Plan.{Plan}
-use Rattle.plan.specs.declared.Planned.{Planned}
-use Rattle.plan.specs.declared.Planned.TheVariants.{Nothing, Runs, Refused}
+use Rattle.plan.specs.Planned.{Plan, Planned, Nothing, Runs, Refused}
 
 -- a block's cells, M and prices
 abbrev pub job_of : PaletteCu → RateModel → Job

@@ -1,12 +1,10 @@
 -- What the planner's functions want of the definitions.
-use Rattle.std.specs.Prelude.{◌≡◌, refl, Bool, true, false, List, [], ◌∷◌, ℕ, zero, suc, ◌+◌, ◌*◌, ◌-◌, ◌≤◌, ◌<◌, eqb, leb, length}
-use Rattle.std.proofs.Common.{ap, sym, ◌∙◌, le_refl, arith}
-use borrow.Author.Tests.{eq-eqb, ne_eqb, le-leb, lt-leb}
-use Rattle.base.specs.Pick.{pick, either}
-use Rattle.base.specs.Tests.{refusal}
+use Rattle.std.specs.Prelude.{◌≡◌, Bool, true, false, ℕ, ◌+◌, ◌*◌, ◌-◌, ◌≤◌, ◌<◌, leb, length}
+use Rattle.std.proofs.Common.{ap, ◌∙◌, arith}
+use borrow.Author.Tests.{ne_eqb, le-leb, lt-leb}
+use Rattle.base.specs.Pick.{either}
 use Rattle.h265.specs.Strings.{bit}
 use Rattle.model.specs.declared.PaletteCu.{PaletteCu}
-use Rattle.model.specs.declared.PaletteRun.{PaletteRun}
 use Rattle.model.specs.Whole.{max_index, block_size_in, holds}
 use Rattle.model.specs.WholeLaws.{whole}
 use Rattle.rates.specs.declared.RateModel.{RateModel}
@@ -14,10 +12,8 @@ use Rattle.rates.specs.Rates.{rates_in}
 use Rattle.paths.specs.Plan.{job, price_of, planned}
 use Rattle.finish.specs.declared.Found.{Found}
 use Rattle.finish.specs.Found.{blank_runs, found_of}
-use Rattle.plan.specs.declared.Plan.{Plan}
-use Rattle.plan.specs.declared.Planned.{Planned}
-use Rattle.plan.specs.declared.Planned.TheVariants.{Nothing, Runs, Refused}
-use Rattle.plan.specs.Answer.{job_of, plan_with, refused_with, runs_for, answer_for, plan_of, block_plan}
+use Rattle.plan.specs.Planned.{Nothing, Runs}
+use Rattle.plan.specs.Answer.{job_of, refused_with, runs_for, answer_for, plan_of, block_plan}
 
 -- ---- a block that holds together
 

@@ -18,8 +18,7 @@ use Rattle.model.specs.WholeLaws.{whole}
 use Rattle.rates.specs.declared.RateModel.{RateModel}
 use Rattle.rates.specs.Rates.{rates_in}
 use Rattle.walk.specs.Points.{no_run}
-use Rattle.plan.specs.declared.Plan.{Plan}
-use Rattle.plan.specs.declared.Planned.TheVariants.{Nothing, Runs, Refused}
+use Rattle.plan.specs.Planned.{Plan, Nothing, Runs, Refused}
 use Rattle.plan.specs.Answer.{runs_for, answer_for, plan_of}
 use Rattle.planned.specs.Planning.{plan-count}
 use Rattle.runlist.specs.Lists.{laid_none, laid-front, laid-past, laid-length}

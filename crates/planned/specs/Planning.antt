@@ -19,7 +19,7 @@ use Rattle.syntax.proofs.ReplayLaws.{rules_keep, rules-alphabets}
 use Rattle.paths.specs.Plan.{Table, price_of, infinite, swept, fresh, last_kind, planned}
 use Rattle.paths.specs.Edges.{cost_of}
 use Rattle.paths.specs.TableLaws.{cost_at, Reached}
-use Rattle.plan.specs.declared.Planned.TheVariants.{Runs}
+use Rattle.plan.specs.Planned.{Runs}
 use Rattle.plan.specs.Answer.{job_of, plan_with, plan_of}
 use Rattle.plan.specs.AnswerLaws.{most_in}
 use Rattle.covers.specs.Reach.{Fair, reached_upto, done-kept, cost_upto}

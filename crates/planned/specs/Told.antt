@@ -15,9 +15,7 @@ use Rattle.rates.specs.declared.RateModel.{RateModel}
 use Rattle.rates.specs.Rates.{rates_in}
 use Rattle.paths.specs.Plan.{planned}
 use Rattle.finish.specs.Found.{found_of}
-use Rattle.plan.specs.declared.Plan.{Plan}
-use Rattle.plan.specs.declared.Planned.{Planned}
-use Rattle.plan.specs.declared.Planned.TheVariants.{Nothing, Runs, Refused}
+use Rattle.plan.specs.Planned.{Plan, Planned, Nothing, Runs, Refused}
 use Rattle.plan.specs.Answer.{job_of, plan_with, refused_with, block_plan, plan_of}
 use Rattle.plan.specs.AnswerLaws.{block_none, block_short, block_runs, refused_2, refused_6, refused_7, block_is}
 

@@ -11,10 +11,11 @@ ghost use Rattle.paths.specs.Plan.{job, price_of, trail, planned};
 ghost use Rattle.walk.specs.Points.{Falls, points_in, Rising, runs_in};
 ghost use Rattle.planonto.specs.Onto.{OnList};
 
-use cheapest::chart;
+use cheapest::{Ends, chart};
 use finish::chosen;
 use model::PaletteRun;
 use rates::RateModel;
+use relax::Paths;
 use walk::{lay, run_to};
 
 // How many runs there are, and the total in bits.
@@ -24,24 +25,20 @@ pub struct Onto {
     pub total: f32,
 }
 
-fn wide(x: u16) -> usize
-    ensures { result ≡ x }
-{
-    x as usize
-}
-
 // A run's four numbers from a place on.
+// Stays beside flatplan's put_run, which tests for room at each number: here the room is known.
 fn put_run(list: &mut [u32], at: usize, run: PaletteRun)
     requires { at + 4 ≤ length list.old }
     ensures { list.new ≡ sets list.old at (bit run.above ∷ run.sent ∷ run.more ∷ run.start ∷ []) }
 {
-    list[at] = run.above as u32;
+    list[at] = u32::from(run.above);
     list[at + 1] = run.sent;
     list[at + 2] = run.more;
     list[at + 3] = run.start;
 }
 
 // The runs between the first `count` of the ends, on a list that has room for them.
+// Stays lists with a count: the definition points_in takes the count beside them.
 fn put_path(
     xs: &[u8; 1024],
     above: &[u8; 1024],
@@ -53,17 +50,14 @@ fn put_path(
     requires { (count ≤ 1024) × Rising 0 (points_in ends.now kinds.now 0 count) × (4 * count ≤ length list.old) }
     ensures { list.new ≡ sets list.old 0 (flat_runs (runs_in xs.now above.now 0 false (points_in ends.now kinds.now 0 count))) }
 {
-    let mut i: usize = 0;
     let mut p: usize = 0;
     let mut k = false;
-    while i < count {
-        let q = wide(ends[i]);
-        let l = kinds[i];
-        let run = run_to(xs, above, p, k, q, l);
+    for i in 0..count {
+        let q = usize::from(ends[i]);
+        let run = run_to(xs, above, p, k, q, kinds[i]);
         put_run(list, 4 * i, run);
         p = q;
-        k = l;
-        i += 1;
+        k = kinds[i];
     }
 }
 
@@ -79,32 +73,29 @@ fn put_fitting(
     requires { (count ≤ 1024) × Rising 0 (points_in ends.now kinds.now 0 count) }
     ensures { list.new ≡ pick (leb count (length list.old / 4)) (sets list.old 0 (flat_runs (runs_in xs.now above.now 0 false (points_in ends.now kinds.now 0 count)))) list.old }
 {
-    if list.len() / 4 < count {
-        return;
+    if count <= list.len() / 4 {
+        put_path(xs, above, ends, kinds, count, list);
     }
-    put_path(xs, above, ends, kinds, count, list);
 }
 
 // The runs of the path that ends at n, with the cheaper of the two ends.
 fn finish_onto(
     xs: &[u8; 1024],
     above: &[u8; 1024],
-    pos: &[u16; 2050],
-    st: &[bool; 2050],
+    paths: &Paths,
     n: usize,
-    e0: f32,
-    e1: f32,
+    e: Ends,
     list: &mut [u32],
 ) -> Onto
-    requires { (n ≤ 1024) × Falls pos.now }
-    ensures { OnList (record { total = pick (lt e1 e0) e1 e0; runs = runs_in xs.now above.now 0 false (trail pos.now st.now n n (lt e1 e0)) })
+    requires { (n ≤ 1024) × Falls paths.now.pos }
+    ensures { OnList (record { total = pick (lt e.above e.index) e.above e.index; runs = runs_in xs.now above.now 0 false (trail paths.now.pos paths.now.st n n (lt e.above e.index)) })
         list.old result.count result.total list.new }
 {
-    let k = e1 < e0;
-    let total = chosen(k, e0, e1);
-    let mut ends = [0u16; 1024];
+    let k = e.above < e.index;
+    let total = chosen(k, e.index, e.above);
+    let mut ends = [0; 1024];
     let mut kinds = [false; 1024];
-    let count = lay(pos, st, n, k, &mut ends, &mut kinds);
+    let count = lay(&paths.pos, &paths.st, n, k, &mut ends, &mut kinds);
     put_fitting(xs, above, &ends, &kinds, count, list);
     Onto { count, total }
 }
@@ -114,9 +105,7 @@ pub fn plan_onto(xs: &[u8; 1024], size: usize, most: u32, m: RateModel, list: &m
     requires { (size ≤ 32) × (1 ≤ most) × (most ≤ 64) }
     ensures { OnList (planned (job size (size * size) most xs.now (price_of m most))) list.old result.count result.total list.new }
 {
-    let mut above = [0u8; 1024];
-    let mut pos = [0u16; 2050];
-    let mut st = [false; 2050];
-    let e = chart(xs, &mut above, &mut pos, &mut st, size, most, m);
-    finish_onto(xs, &above, &pos, &st, size * size, e.index, e.above, list)
+    let mut above = [0; 1024];
+    let (paths, ends) = chart(xs, &mut above, size, most, m);
+    finish_onto(xs, &above, &paths, size * size, ends, list)
 }

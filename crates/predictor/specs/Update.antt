@@ -1,5 +1,5 @@
 -- The predictor after a block: document 01's "Update" and its refusals 2, 5 and 7.
-use Rattle.std.specs.Prelude.{Bool, List, [], ◌∷◌, ◌++◌, ℕ, ◌-◌, eqb, leb, length, take, replicate}
+use Rattle.std.specs.Prelude.{Bool, Result, Ok, Err, List, [], ◌∷◌, ◌++◌, ℕ, ◌-◌, eqb, leb, length, take, replicate}
 use Rattle.base.specs.Pick.{pick}
 use Rattle.base.specs.Tests.{every, refusal}
 use Rattle.h265.specs.Predictor.{updated}
@@ -8,7 +8,8 @@ use Rattle.model.specs.declared.PaletteCu.{PaletteCu}
 use Rattle.model.specs.declared.PalettePredictor.{PalettePredictor}
 use Rattle.model.specs.Domain.{no_color, predictor_in}
 use Rattle.model.specs.Whole.{block_size_in, holds}
-use Rattle.predictor.specs.declared.Updated.{Updated}
+use Rattle.refusal.specs.Refusal.{number_of}
+use Rattle.refusal.specs.declared.Refusal.{Refusal}
 
 -- n entries: those of a list, and none after them
 unfoldable pub padded : ℕ → List Color → List Color
@@ -30,6 +31,16 @@ update_refusal p cu limit =
     ((block_size_in cu, 2)
     ∷ (every (predictor_in cu.chroma_idc cu.bd_luma cu.bd_chroma p ∷ leb limit 128 ∷ []), 5)
     ∷ (holds 64 cu, 7) ∷ [])
+
+-- an update's answer: a refusal's number, 0 where there is none, and the predictor after it
+pub record Updated : Type 0 where
+  pub refusal : ℕ
+  pub predictor : PalettePredictor
+
+-- the answer to an update of p
+abbrev pub as_updated : PalettePredictor → Result PalettePredictor Refusal → Updated
+as_updated p (Ok q) = record { refusal = 0; predictor = q }
+as_updated p (Err r) = record { refusal = number_of r; predictor = p }
 
 -- the predictor that came in where there is a refusal
 unfoldable pub update_of : PalettePredictor → PaletteCu → ℕ → Updated

@@ -1,9 +1,13 @@
 -- Bins as the bytes of a word, the first lowest: stored in two parts that may overlap, and at most seven bits spread to bytes by one product.
-use Rattle.std.specs.Prelude.{◌≡◌, refl, Bool, true, false, List, [], ◌∷◌, ◌++◌, ℕ, zero, suc, ◌+◌, ◌-◌, ◌*◌, ◌/◌, ◌%◌, ◌^◌, ◌≤◌, ◌<◌, eqb, ltb, length, set, take}
-use Rattle.std.proofs.Common.{ap, ap₂, sym, ◌∙◌, true≢false, zero-add, suc-add, arith, pow-add, shr-shr, shl_exact, set-set, take_at, eqb-true}
+use Rattle.std.specs.Prelude.{◌≡◌, refl, Bool, true, false, List, [], ◌∷◌, ◌++◌, ℕ, zero, suc, ◌+◌, ◌-◌, ◌*◌, ◌/◌, ◌%◌, ◌^◌, ◌≤◌, ◌<◌, eqb, ltb, length, set, take, drop}
+use Rattle.std.proofs.Common.{ap, ap₂, sym, ◌∙◌, true≢false, zero-add, suc-add, arith, pow-add, shr-shr, shl_exact, set-set, take_at, eqb-true, append_assoc}
 use Rattle.std.specs.Int.Bits.{bit_and}
 use Rattle.std.proofs.lemmas.Nat.{and_le_r, shl-shr}
-use Rattle.std.proofs.lemmas.List.Edits.{sets}
+use Rattle.std.proofs.lemmas.List.Edits.{sets, sets-eq, paste_all}
+use Rattle.std.proofs.lemmas.Slice.{put_mid-paste}
+use Rattle.std.specs.Int.{byte_at, bytes_low_first, to_le_bytes, w64}
+use borrow.Rule.Slice.PartMut.{put_mid}
+use Rattle.std.proofs.Math.Nat.{pow-suc}
 use Rattle.std.proofs.lemmas.List.{set_comm}
 use Rattle.base.specs.Laid.{Laid, sets_append}
 use Rattle.base.specs.Pick.{pick, either}
@@ -30,6 +34,36 @@ bytes-append zero b w =
 bytes-append (suc a) b w =
     let e : 8 * suc a ≡ 8 + 8 * a = omega arith in
     rw (suc-add, e, ← shr-shr w 8 (8 * a)) (ap (λ (t : List ℕ). w % 256 ∷ t) (bytes-append a b (w / 256)))
+
+pow_bytes : (i : ℕ) → 256 ^ i ≡ 2 ^ (8 * i)
+pow_bytes zero = refl
+pow_bytes (suc i) =
+    let e : 8 * suc i ≡ 8 * i + 8 = omega arith in
+    rw (e, pow-add 2 (8 * i) 8, ← pow_bytes i, pow-suc 256 i)
+
+byte_low : (i w : ℕ) → byte_at i w ≡ w / 2 ^ (8 * i) % 256
+byte_low zero w = let e : w / 2 ^ (8 * 0) ≡ w = omega arith in rw e
+byte_low (suc i) w = ap (λ (p : ℕ). w / p % 256) (pow_bytes (suc i))
+
+-- the first n of k bytes from byte i on
+bytes_first : (i n k w : ℕ) → n ≤ k → take n (bytes_low_first i k w) ≡ bytes n (w / 2 ^ (8 * i))
+unfolding bytes
+bytes_first i zero k w h = refl
+bytes_first i (suc n) zero w h = absurd (omega arith)
+bytes_first i (suc n) (suc k) w h =
+    let e : 8 * i + 8 ≡ 8 * suc i = omega arith in
+    let d : w / 2 ^ (8 * suc i) ≡ w / 2 ^ (8 * i) / 256 = sym (shr-shr w (8 * i) 8 ∙ ap (λ (x : ℕ). w / 2 ^ x) e) in
+    rw (byte_low i w, bytes_first (suc i) n k w (omega arith), d)
+
+-- the first n of a word's eight bytes, copied onto a list
+pub bytes_copied : (n w : ℕ) (l : List ℕ) (at k : ℕ) (m : List ℕ) → n ≤ 8 → at + n ≤ length l → k ≡ n → m ≡ take n (to_le_bytes w64 w) → put_mid at k l m ≡ sets l at (bytes n w)
+bytes_copied n w l at k m h g e f =
+    let z : w / 2 ^ (8 * 0) ≡ w = omega arith in
+    let b : m ≡ bytes n w = f ∙ bytes_first 0 n 8 w h ∙ ap (bytes n) z in
+    let c : n ≡ length (bytes n w) = sym (length-bytes n w) in
+    put_mid-paste at k l m (bytes n w) n b (sym e) c
+    ∙ paste_all l at (bytes n w) n c
+    ∙ sym ((rw (length-bytes n w) at (sets-eq (bytes n w) l at (rw (length-bytes n w) g))) ∙ append_assoc (take at l) (bytes n w) (drop (at + n) l))
 
 -- ---- stores one over another
 

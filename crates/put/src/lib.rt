@@ -12,35 +12,20 @@ ghost use Rattle.put.specs.Words.{bytes, spread};
 use bins::{flog, pow2};
 
 // One bin, as its byte.
+// Stays a list and a place, here and in all writers: the definition `Laid` goes from a place to the next, as they do.
 pub fn put_bin(list: &mut [u8], at: usize, byte: u8) -> usize
     requires { at < 2 ^ 63 }
     ensures { Laid list.old at (byte ∷ []) result list.new }
 {
-    if at < list.len() {
-        list[at] = byte;
-        return at + 1;
-    }
-    at + 1
+    laying::put(list, at, byte)
 }
 
-// The four low bytes of a word, the lowest first, where the list has room for them.
-fn store_four(list: &mut [u8], at: usize, w: u64)
-    requires { at + 4 ≤ length list.old }
-    ensures { list.new ≡ sets list.old at (bytes 4 w) }
+// The N low bytes of a word, the lowest first, where the list has room for them.
+fn store<const N: usize>(list: &mut [u8], at: usize, w: u64)
+    requires { (N ≤ 8) × (at + N ≤ length list.old) }
+    ensures { list.new ≡ sets list.old at (bytes N w) }
 {
-    list[at] = (w % 256) as u8;
-    list[at + 1] = ((w >> 8) % 256) as u8;
-    list[at + 2] = ((w >> 16) % 256) as u8;
-    list[at + 3] = ((w >> 24) % 256) as u8;
-}
-
-// The two low bytes of a word, the lowest first, where the list has room for them.
-fn store_two(list: &mut [u8], at: usize, w: u64)
-    requires { at + 2 ≤ length list.old }
-    ensures { list.new ≡ sets list.old at (bytes 2 w) }
-{
-    list[at] = (w % 256) as u8;
-    list[at + 1] = (w / 256 % 256) as u8;
+    list[at..at + N].copy_from_slice(&w.to_le_bytes()[..N]);
 }
 
 // The n low bytes of a word, the lowest first, where the list has room for them: the first ones and the last ones, which may be some of the same.
@@ -50,14 +35,14 @@ pub fn lay_word(list: &mut [u8], at: usize, w: u64, n: usize) -> usize
 {
     if 4 <= n {
         let past = n - 4;
-        store_four(list, at, w);
-        store_four(list, at + past, w >> (8 * past) as u64);
+        store::<4>(list, at, w);
+        store::<4>(list, at + past, w >> (8 * past));
         return at + n;
     }
     if 2 <= n {
         let past = n - 2;
-        store_two(list, at, w);
-        store_two(list, at + past, w >> (8 * past) as u64);
+        store::<2>(list, at, w);
+        store::<2>(list, at + past, w >> (8 * past));
         return at + n;
     }
     if n == 1 {
@@ -80,15 +65,15 @@ fn spread_bits(value: u32, n: u32) -> u64
     requires { n ≤ 7 }
     ensures { bytes n result ≡ bits n value }
 {
-    spread_seven(((value as u64) << (7 - n) as u64) % 128)
+    spread_seven((u64::from(value) << (7 - n)) % 128)
 }
 
 // Eight bits likewise.
 fn spread_eight(value: u32) -> u64
     ensures { bytes 8 result ≡ bits 8 value }
 {
-    let high = spread_seven(((value / 2) % 128) as u64);
-    high + ((value % 2) as u64) * 72057594037927936
+    let high = spread_seven(u64::from(value / 2 % 128));
+    high + u64::from(value % 2) * 72057594037927936
 }
 
 // The n low bits, each stored where the list has room for it: the lowest after the others, eight with room as a word.
@@ -99,10 +84,8 @@ fn put_long(list: &mut [u8], at: usize, value: u32, n: u32) -> usize
     if n == 0 {
         return at;
     }
-    if n == 8 {
-        if at + 8 <= list.len() {
-            return lay_word(list, at, spread_eight(value), 8);
-        }
+    if n == 8 && at + 8 <= list.len() {
+        return lay_word(list, at, spread_eight(value), 8);
     }
     let to = put_long(list, at, value >> 1, n - 1);
     put_bin(list, to, (value % 2) as u8)
@@ -113,10 +96,8 @@ pub fn put_bits(list: &mut [u8], at: usize, value: u32, n: u32) -> usize
     requires { (n ≤ 32) × (at + 32 < 2 ^ 63) }
     ensures { Laid list.old at (bits n value) result list.new }
 {
-    if n <= 7 {
-        if at + n as usize <= list.len() {
-            return lay_word(list, at, spread_bits(value, n), n as usize);
-        }
+    if n <= 7 && at + n as usize <= list.len() {
+        return lay_word(list, at, spread_bits(value, n), n as usize);
     }
     put_long(list, at, value, n)
 }
@@ -126,10 +107,7 @@ fn raised(short: u32, v: u32) -> u32
     requires { (v ≤ 65536) × (short ≤ 131072) }
     ensures { result ≡ pick (ltb v short) v (v + short) }
 {
-    if v < short {
-        return v;
-    }
-    v + short
+    if v < short { v } else { v + short }
 }
 
 // In how many bits: k, or one more.
@@ -137,10 +115,7 @@ fn bits_for(k: u32, short: u32, v: u32) -> u32
     requires { k ≤ 31 }
     ensures { (result ≡ pick (ltb v short) k (k + 1)) × (result ≤ k + 1) }
 {
-    if short <= v {
-        return k + 1;
-    }
-    k
+    if v < short { k } else { k + 1 }
 }
 
 // Truncated binary over an alphabet whose logarithm is k and which has so many short strings.

@@ -1,13 +1,14 @@
 -- The cells of a block's list of numbers that escape, and the bins of their levels.
-use Rattle.std.specs.Prelude.{◌≡◌, refl, true, false, not, List, [], ◌++◌, ℕ, zero, suc, ◌+◌, ◌*◌, ◌-◌, ◌≤◌, ◌<◌, eqb, length, get_or}
+use Rattle.std.specs.Prelude.{◌≡◌, refl, Bool, true, false, not, List, [], ◌++◌, ℕ, zero, suc, ◌+◌, ◌*◌, ◌-◌, ◌≤◌, ◌<◌, eqb, length, get_or, take, drop}
 use Rattle.std.proofs.Math.Path.{ap, sym}
 use Rattle.std.proofs.Common.{◌∙◌, ⊎_elim, add-zero, arith}
 use Rattle.std.proofs.Math.Nat.{min-eq_left, min-eq_right}
 use Rattle.std.proofs.Math.ListN.{length-replicate}
+use Rattle.std.proofs.lemmas.List.{get_or-take, get_or-drop}
 use borrow.Author.Tests.{eq-eqb, ne_eqb, eqb-false, not-true}
 use Rattle.base.specs.Cells.{laid-length}
 use Rattle.base.specs.Pick.{pick, lt_or_le}
-use Rattle.base.specs.Tests.{up_to, up_to-at}
+use Rattle.base.specs.Tests.{up_to, up_to-at, up_to-same}
 use Rattle.flat.specs.Flat.{number, byte, levels_at, block_of}
 use Rattle.flat.specs.FlatLaws.{each_at_lem}
 use Rattle.due.specs.Due.{due_at}
@@ -39,6 +40,13 @@ quiet_tested b i e c h m q =
     let j : c - i < 16 = omega arith in
     let z : 336 + i + (c - i) ≡ 336 + c = omega arith in
     eqb-false (number b (336 + c)) (number b 5) (rw z at (not-true (eqb (number b (336 + i + (c - i))) (number b 5)) (up_to-at (λ j. not (eqb (number b (336 + i + j)) (number b 5))) 16 e (c - i) j))) q
+
+-- the same of a slice of 16 cells
+pub quiet_sliced : (b : List ℕ) (i n k : ℕ) → n ≡ 16 → k ≡ 16 → up_to k (λ j. not (eqb (number (take n (drop (336 + i) b)) j) (number b 5))) ≡ true → Quiet b i (i + 16)
+quiet_sliced b i n k e f h =
+    let f₁ : ℕ → Bool = λ j. not (eqb (number (take n (drop (336 + i) b)) j) (number b 5)) in
+    let f₂ : ℕ → Bool = λ j. not (eqb (number b (336 + i + j)) (number b 5)) in
+    quiet_tested b i (sym (up_to-same 16 f₁ f₂ (λ j l. ap (λ (x : ℕ). not (eqb x (number b 5))) (get_or-take n (drop (336 + i) b) j 0 (omega arith) ∙ get_or-drop (336 + i) b j 0))) ∙ (rw f at h))
 
 pub quiet_join : (b : List ℕ) (i j k : ℕ) → Quiet b i j → Quiet b j k → Quiet b i k
 quiet_join b i j k p q c h m e = ⊎_elim (λ (l : c < j). p c h l e) (λ (l : j ≤ c). q c l m e) (lt_or_le c j)

@@ -1,5 +1,5 @@
 -- The escape levels in the code's numbers, and that they are the block's.
-use Rattle.std.specs.Prelude.{◌≡◌, refl, Bool, true, false, List, [], ◌∷◌, ◌++◌, map, ℕ, suc, ◌+◌, ◌-◌, ◌≤◌, ◌<◌, eqb, length, take, drop, get_or}
+use Rattle.std.specs.Prelude.{◌≡◌, refl, Bool, true, false, List, [], ◌∷◌, ◌++◌, map, ℕ, suc, ◌+◌, ◌≤◌, ◌<◌, eqb, length, take, drop, get_or}
 use Rattle.std.proofs.Math.Numerals.{add-one}
 use Rattle.base.specs.Codes.{each_bins}
 use Rattle.base.specs.Counted as C

@@ -48,11 +48,8 @@ fn quiet(block: &[u16], i: usize) -> bool
 {
     let e = block[5];
     let mut ok = true;
-    let mut j: usize = 0;
-    while j < 16 {
-        let x = block[336 + i + j];
-        ok = ok & (x != e);
-        j += 1;
+    for x in &block[336 + i..352 + i] {
+        ok = ok & (*x != e);
     }
     ok
 }
@@ -63,12 +60,9 @@ fn past_quiet(block: &[u16], from: usize, n: usize) -> usize
     ensures { (from ≤ result) × (result ≤ n) × Quiet block.now from result }
 {
     let mut i = from;
-    while i + 16 <= n {
-        if quiet(block, i) {
-            i += 16;
-        } else {
-            return i;
-        }
+    // Stays a while: it passes 16 cells a step, from a place that is no multiple of 16.
+    while i + 16 <= n && quiet(block, i) {
+        i += 16;
     }
     i
 }
@@ -79,14 +73,12 @@ fn next_escape(block: &[u16], from: usize, n: usize) -> usize
     ensures { Next block.now from n result }
 {
     let e = block[5];
-    let mut i = past_quiet(block, from, n);
-    while i < n {
+    for i in past_quiet(block, from, n)..n {
         if block[336 + i] == e {
             return i;
         }
-        i += 1;
     }
-    i
+    n
 }
 
 // The levels of component k at the first n cells.
@@ -97,6 +89,7 @@ fn put_levels(list: &mut [u8], at: usize, block: &[u16], n: usize, k: u8, depth:
 {
     let mut p = at;
     let mut i = next_escape(block, 0, n);
+    // Stays a while: it goes on from one cell that escapes to the next.
     while i < n {
         p = put_cell(list, p, block, i, k, depth);
         i = next_escape(block, i + 1, n);

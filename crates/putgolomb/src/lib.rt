@@ -18,6 +18,7 @@ pub fn put_egk(list: &mut [u8], at: usize, order: u32, value: u32) -> usize
     let mut k = order;
     let mut p = pow2(order);
     let mut v = value;
+    // Stays a while: the step is the power, twice as long each time.
     while p <= v {
         to = put_bin(list, to, 1);
         k += 1;

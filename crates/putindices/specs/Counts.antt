@@ -1,5 +1,5 @@
 -- Counting a run list: how many index runs are left, and the kind of the last.
-use Rattle.std.specs.Prelude.{◌≡◌, refl, Bool, true, false, List, [], ◌∷◌, ◌++◌, ℕ, zero, suc, ◌+◌, ◌-◌, ◌≤◌, ◌<◌, length, take, get_or}
+use Rattle.std.specs.Prelude.{◌≡◌, refl, Bool, true, false, List, [], ◌∷◌, ℕ, zero, suc, ◌+◌, ◌-◌, ◌≤◌, ◌<◌, length, take, get_or}
 use Rattle.std.proofs.Common.{arith}
 use Rattle.base.specs.Pick.{pick}
 use Rattle.syntax.specs.Runs.{Run, sent_of, final_of}

@@ -1,6 +1,6 @@
 -- One turn of the loop that lays the indices.
-use Rattle.std.specs.Prelude.{◌≡◌, refl, Bool, true, false, List, [], ◌∷◌, ◌++◌, ℕ, zero, suc, ◌+◌, ◌-◌, ◌≤◌, ◌<◌, ltb, eqb, length, drop}
-use Rattle.std.proofs.Common.{ap, sym, ◌∙◌, add-zero, arith, ltb-true, ltb-false}
+use Rattle.std.specs.Prelude.{◌≡◌, refl, Bool, true, false, List, [], ◌∷◌, ◌++◌, ℕ, ◌+◌, ◌-◌, ◌≤◌, ◌<◌, ltb, eqb, drop}
+use Rattle.std.proofs.Common.{add-zero, ltb-true, ltb-false}
 use Rattle.base.specs.Pick.{pick, either}
 use Rattle.base.specs.Codes.{each_bins, Each}
 use Rattle.base.specs.Pick.{true_false}

@@ -14,6 +14,7 @@ ghost use Rattle.syntax.specs.Runs.{sent_of, final_of};
 
 use bins::flog;
 use flatplan::run_in;
+use model::PaletteRun;
 use put::{put_cut, put_tb, shorts};
 use runstate::used_after;
 
@@ -22,12 +23,9 @@ pub fn count_index(runs: &[u32], count: usize) -> u32
     requires { (count ≤ 1024) × (4 * count ≤ length runs.now) }
     ensures { result ≡ length (sent_of (first_of runs.now count)) }
 {
-    let mut k: u32 = 0;
-    let mut i: usize = 0;
-    while i < count {
-        let r = run_in(runs, 4 * i);
-        k = used_after(k, r.above);
-        i += 1;
+    let mut k = 0;
+    for i in 0..count {
+        k = used_after(k, run_in(runs, 4 * i).above);
     }
     k
 }
@@ -37,35 +35,47 @@ pub fn final_kind(runs: &[u32], count: usize) -> bool
     requires { (count ≤ 1024) × (4 * count ≤ length runs.now) }
     ensures { result ≡ final_of false (first_of runs.now count) }
 {
-    if count == 0 {
-        return false;
-    }
-    let r = run_in(runs, 4 * (count - 1));
-    r.above
+    0 < count && run_in(runs, 4 * (count - 1)).above
 }
 
-// The index of one run, where it has one; k index runs came before, and m has logarithm `log` and so many short strings.
-fn put_index(
-    list: &mut [u8],
-    at: usize,
-    m: u32,
+// The alphabet of all indices but the first: its size, with its logarithm and its short strings.
+#[derive(Clone, Copy)]
+struct Alphabet {
+    size: u32,
     log: u32,
     short: u32,
-    k: u32,
-    above: bool,
-    sent: u32,
-) -> usize
-    requires { (1 ≤ m) × (m ≤ 64) × (log ≤ 16) × (short ≤ 131072) × (log ≡ S.flog m) × (short ≡ S.short m) × (at + 32 < 2 ^ 63) × (above ≡ false → sent < pick (eqb k 0) (m + 1) m) }
-    ensures laid { Laid list.old at (pick above [] (tb (pick (eqb k 0) (m + 1) m) sent)) result list.new }
+    ghost small: { (1 ≤ size) × (size ≤ 64) × (log ≤ 16) × (short ≤ 131072) },
+    ghost known: { (log ≡ S.flog size) × (short ≡ S.short size) },
+}
+
+// The alphabet where the greatest index is m.
+fn alphabet_of(m: u32) -> Alphabet
+    requires { (1 ≤ m) × (m ≤ 64) }
+    ensures { result.size ≡ m }
+{
+    let log = flog(m);
+    let short = shorts(m, log);
+    Alphabet {
+        size: m,
+        log,
+        short,
+    }
+}
+
+// The index of one run, where it has one; k index runs came before.
+#[tactic(auto, using(base::specs::Laid::laid_none))]
+fn put_index(list: &mut [u8], at: usize, alphabet: Alphabet, k: u32, run: PaletteRun) -> usize
+    requires { (at + 32 < 2 ^ 63) × (run.above ≡ false → run.sent < pick (eqb k 0) (alphabet.size + 1) alphabet.size) }
+    ensures laid { Laid list.old at (pick run.above [] (tb (pick (eqb k 0) (alphabet.size + 1) alphabet.size) run.sent)) result list.new }
     ensures near { result ≤ at + 32 }
 {
-    if above {
+    if run.above {
         return at;
     }
     if k == 0 {
-        return put_tb(list, at, m + 1, sent);
+        return put_tb(list, at, alphabet.size + 1, run.sent);
     }
-    put_cut(list, at, log, short, sent)
+    put_cut(list, at, alphabet.log, alphabet.short, run.sent)
 }
 
 // The indices of the first `count` runs, of which `total` are index runs.
@@ -81,16 +91,13 @@ pub fn put_indices(
     ensures laid { Laid list.old at (each_bins tb (alphabets m (total - 1)) (sent_of (first_of runs.now count))) result list.new }
     ensures near { result ≤ at + 32 * count }
 {
-    let log = flog(m);
-    let short = shorts(m, log);
+    let alphabet = alphabet_of(m);
     let mut to = at;
-    let mut k: u32 = 0;
-    let mut i: usize = 0;
-    while i < count {
-        let r = run_in(runs, 4 * i);
-        to = put_index(list, to, m, log, short, k, r.above, r.sent);
-        k = used_after(k, r.above);
-        i += 1;
+    let mut k = 0;
+    for i in 0..count {
+        let run = run_in(runs, 4 * i);
+        to = put_index(list, to, alphabet, k, run);
+        k = used_after(k, run.above);
     }
     to
 }

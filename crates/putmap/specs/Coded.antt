@@ -1,6 +1,6 @@
 -- The map's bins in the writer's order: index count and indices, the flags, the runs.
-use Rattle.std.specs.Prelude.{◌≡◌, refl, Bool, false, List, [], ◌++◌, ℕ, ◌-◌, ◌≤◌, ◌<◌, length}
-use Rattle.std.proofs.Common.{ap, sym, subst, ◌∙◌, append_assoc, arith, lt-ltb}
+use Rattle.std.specs.Prelude.{◌≡◌, Bool, false, List, [], ◌++◌, ℕ, ◌-◌, ◌≤◌, length}
+use Rattle.std.proofs.Common.{ap, sym, subst, ◌∙◌, append_assoc, lt-ltb}
 use Rattle.base.specs.Codes.{each_bins}
 use Rattle.base.specs.Laid.{Laid, laid_then}
 use Rattle.base.specs.Pick.{pick}

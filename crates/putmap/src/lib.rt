@@ -6,7 +6,7 @@ ghost use Rattle.base.specs.Laid.{Laid};
 ghost use Rattle.base.specs.Pick.{pick};
 ghost use Rattle.flatplan.specs.Flat.{first_of};
 ghost use Rattle.h265.specs.Strings.{bit, bin_of, marker};
-ghost use Rattle.syntax.specs.Block.{coded_bins, map_bins};
+ghost use Rattle.syntax.specs.Block.{map_bins};
 ghost use Rattle.syntax.specs.MapLaws.{CodedOk};
 
 use put::put_bin;
@@ -18,10 +18,11 @@ use putruns::{kind_byte, put_runs};
 fn turn_byte(turned: bool) -> u8
     ensures { result ≡ 2 * 2 + bit turned }
 {
-    if turned { 5 } else { 4 }
+    4 + u8::from(turned)
 }
 
 // The QP marker, where there are escapes.
+#[tactic(auto, using(base::specs::Laid::laid_none))]
 fn put_marker(list: &mut [u8], at: usize, escape: bool) -> usize
     requires { at < 2 ^ 63 }
     ensures laid { Laid list.old at (pick escape marker []) result list.new }
@@ -44,30 +45,6 @@ fn put_flags(list: &mut [u8], at: usize, fin: bool, turned: bool, escape: bool) 
     put_marker(list, q, escape)
 }
 
-// The map of a block whose greatest index is m, above 0.
-fn put_coded(
-    list: &mut [u8],
-    at: usize,
-    size: u32,
-    n: u32,
-    m: u32,
-    escape: bool,
-    turned: bool,
-    runs: &[u32],
-    count: usize,
-) -> usize
-    requires { (at < 2 ^ 61) × (1 ≤ size) × (1 ≤ n) × (n ≤ 1024) × (1 ≤ m) × (m ≤ 64) × (count ≤ 1024) × (4 * count ≤ length runs.now) × CodedOk size n m (record { turned = turned; runs = first_of runs.now count }) }
-    ensures laid { Laid list.old at (coded_bins size n m escape (record { turned = turned; runs = first_of runs.now count })) result list.new }
-    ensures near { result ≤ at + (67 + 97 * count) }
-{
-    let total = count_index(runs, count);
-    let fin = final_kind(runs, count);
-    let p = put_count(list, at, m, total - 1);
-    let q = put_indices(list, p, m, runs, count, total);
-    let r = put_flags(list, q, fin, turned, escape);
-    put_runs(list, r, size, n, fin, runs, count, total)
-}
-
 // The map of any block; with m = 0 there is at most the QP marker.
 pub fn put_map(
     list: &mut [u8],
@@ -88,5 +65,10 @@ pub fn put_map(
     if m == 0 {
         return put_marker(list, at, escape);
     }
-    put_coded(list, at, size, n, m, escape, turned, runs, count)
+    let total = count_index(runs, count);
+    let fin = final_kind(runs, count);
+    let p = put_count(list, at, m, total - 1);
+    let q = put_indices(list, p, m, runs, count, total);
+    let r = put_flags(list, q, fin, turned, escape);
+    put_runs(list, r, size, n, fin, runs, count, total)
 }

@@ -31,10 +31,8 @@ fn put_column(
     ensures near { result ≤ at + 2048 }
 {
     let mut p = at;
-    let mut i = from;
-    while i < to {
+    for i in from..to {
         p = put_bits(list, p, block[16 + 3 * i + k] as u32, depth);
-        i += 1;
     }
     p
 }
@@ -53,6 +51,7 @@ fn put_entries(list: &mut [u8], at: usize, block: &[u16], from: usize, to: usize
 }
 
 // num_signalled_palette_entries, where the limit leaves room.
+#[tactic(auto, unfolding(syntax::specs::Block::signalled_bins), using(base::specs::Laid::laid_none))]
 fn put_signalled(list: &mut [u8], at: usize, limit: u32, reused: u32, new: u32) -> usize
     requires { (new ≤ 64) × (at < 2 ^ 62) }
     ensures laid { Laid list.old at (signalled_bins limit reused new) result list.new }
@@ -68,10 +67,11 @@ fn put_signalled(list: &mut [u8], at: usize, limit: u32, reused: u32, new: u32) 
 fn escape_byte(escape: bool) -> u8
     ensures { result ≡ 0 * 2 + bit escape }
 {
-    if escape { 1 } else { 0 }
+    u8::from(escape)
 }
 
 // The escape flag, not sent for an empty palette.
+#[tactic(auto, using(base::specs::Laid::laid_none))]
 fn put_escape(list: &mut [u8], at: usize, size: usize, escape: bool) -> usize
     requires { at < 2 ^ 62 }
     ensures laid { Laid list.old at (when_bins (ltb 0 size) (bin_of 0) escape) result list.new }
@@ -92,7 +92,7 @@ pub fn put_palette(list: &mut [u8], at: usize, block: &[u16]) -> usize
     let flags = flags_of(block);
     let size = block[5] as usize;
     let reused = size - block[7] as usize;
-    let p = put_reuse(list, at, 64, flags, block[6] as usize);
+    let p = put_reuse(list, at, 64, &flags[..block[6] as usize]);
     let q = put_signalled(list, p, 64, reused as u32, (size - reused) as u32);
     let r = put_entries(list, q, block, reused, size);
     put_escape(list, r, size, block[8] == 1)

@@ -1,15 +1,14 @@
 -- A run's prefix, and a run of fewer than eight further cells whole, as the bytes of a word: by computation for each class that the first bin may have.
-use Rattle.std.specs.Prelude.{◌≡◌, refl, Bool, true, false, List, [], ◌∷◌, ◌++◌, ℕ, zero, suc, ◌+◌, ◌-◌, ◌*◌, ◌/◌, ◌%◌, ◌^◌, ◌≤◌, ◌<◌, eqb, ltb, leb, length, take}
-use Rattle.std.proofs.Common.{ap, sym, ◌∙◌, ⊎_elim, add-zero, zero-add, one-mul, arith, pow_pos, shl_exact, take_at, eqb-true, leb-true, ltb-true, ltb-false}
+use Rattle.std.specs.Prelude.{◌≡◌, refl, Bool, true, false, List, [], ◌∷◌, ◌++◌, ℕ, zero, suc, ◌+◌, ◌-◌, ◌*◌, ◌/◌, ◌%◌, ◌^◌, ◌≤◌, ◌<◌, eqb, ltb, leb, take}
+use Rattle.std.proofs.Common.{ap, sym, ◌∙◌, add-zero, zero-add, one-mul, arith, pow_pos, shl_exact, take_at, eqb-true, leb-true, ltb-true, ltb-false}
 use Rattle.std.proofs.Math.Nat.{mod-le}
-use Rattle.std.specs.Int.Bits.{bit_and}
 use Rattle.base.specs.Pick.{pick, either}
 use Rattle.base.specs.Powers.{pow_next, exp_lt}
 use Rattle.base.specs.Tests.{up_to, up_to-at}
 use Rattle.h265.specs.Strings.{bits, flog, flog_aux, unary, run_class, prefix_of, suffix_bins, run_bins}
 use Rattle.h265.specs.StringLaws.{flog-low, flog-high}
 use Rattle.h265.proofs.RunLaws.{suffix_is, runs-some}
-use Rattle.bins.specs.Logarithm.{flog-most, suffixes-all}
+use Rattle.bins.specs.Logarithm.{suffixes-all}
 use Rattle.put.specs.Words.{bytes, length-bytes, bytes-append, same_list, same_list_lem, spread}
 use Rattle.putrun.specs.Ones.{length-ones, stopped}
 use Rattle.putrun.specs.Plain.{tb_plain}

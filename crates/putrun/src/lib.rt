@@ -34,7 +34,7 @@ fn ones_of(ones: u32) -> u64
     requires { ones ≤ 7 }
     ensures { result ≡ ones_of ones }
 {
-    72340172838076673 % (1 << (8 * ones) as u64)
+    72340172838076673 % (1 << (8 * ones))
 }
 
 // The bins of a prefix: its ones, and a zero unless they are the most.
@@ -42,10 +42,7 @@ fn prefix_size(most: u32, ones: u32) -> usize
     requires { ones ≤ 7 }
     ensures { (result ≡ ones + pick (ltb ones most) 1 0) × (result ≤ 8) }
 {
-    if ones < most {
-        return ones as usize + 1;
-    }
-    ones as usize
+    ones as usize + usize::from(ones < most)
 }
 
 // The prefix of at most seven ones where the list has room for it.
@@ -64,14 +61,12 @@ fn put_bins(list: &mut [u8], at: usize, most: u32, ones: u32, above: bool, sent:
     ensures near { result ≤ at + 32 }
 {
     let mut to = at;
-    let mut i: u32 = 0;
     let mut w = word_of(above, sent);
-    while i < ones {
+    for _ in 0..ones {
         to = put_bin(list, to, (w % 256) as u8 + 1);
-        w = w / 256;
-        i += 1;
+        w /= 256;
     }
-    if i < most {
+    if ones < most {
         return put_bin(list, to, (w % 256) as u8);
     }
     to
@@ -83,10 +78,8 @@ fn put_prefix(list: &mut [u8], at: usize, most: u32, ones: u32, above: bool, sen
     ensures laid { Laid list.old at (unary (run_class above sent) 0 most ones) result list.new }
     ensures near { result ≤ at + 32 }
 {
-    if ones <= 7 {
-        if at + 8 <= list.len() {
-            return lay_prefix(list, at, most, ones, above, sent);
-        }
+    if ones <= 7 && at + 8 <= list.len() {
+        return lay_prefix(list, at, most, ones, above, sent);
     }
     put_bins(list, at, most, ones, above, sent)
 }
@@ -113,10 +106,7 @@ fn prefix_of(more: u32) -> u32
     requires { more ≤ 1024 }
     ensures { result ≡ prefix_of more }
 {
-    if more == 0 {
-        return 0;
-    }
-    flog(more) + 1
+    if more == 0 { 0 } else { flog(more) + 1 }
 }
 
 // The same of any run: prefix, then suffix; nothing where there is no choice.
@@ -156,9 +146,10 @@ fn few_classes(above: bool, sent: u32, more: u32) -> u64
 {
     let w = word_of(above, sent);
     if more < 4 {
-        return w % 16777216;
+        w % 16777216
+    } else {
+        w % 4294967296
     }
-    w % 4294967296
 }
 
 // Of such a run: its bins as the bytes of a word.
@@ -166,7 +157,7 @@ fn few_word(above: bool, sent: u32, more: u32) -> u64
     requires { more < 8 }
     ensures { (longest : ℕ) → few_longest more ≤ longest → bytes (few_size more) result ≡ run_bins longest above sent more }
 {
-    let x = (8535573020886974464 >> (8 * more) as u64) % 256;
+    let x = (8535573020886974464 >> (8 * more)) % 256;
     few_classes(above, sent, more) + spread_seven(x)
 }
 
@@ -176,13 +167,9 @@ pub fn put_run(list: &mut [u8], at: usize, longest: u32, above: bool, sent: u32,
     ensures laid { Laid list.old at (run_bins longest above sent more) result list.new }
     ensures near { result ≤ at + 64 }
 {
-    if more < 8 {
-        if few_longest(more) <= longest {
-            if at + 8 <= list.len() {
-                let w = few_word(above, sent, more);
-                return lay_word(list, at, w, few_size(more));
-            }
-        }
+    if more < 8 && few_longest(more) <= longest && at + 8 <= list.len() {
+        let w = few_word(above, sent, more);
+        return lay_word(list, at, w, few_size(more));
     }
     put_any(list, at, longest, above, sent, more)
 }

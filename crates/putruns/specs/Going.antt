@@ -1,6 +1,6 @@
 -- The state of the writer's run loop, and one turn of it.
-use Rattle.std.specs.Prelude.{◌≡◌, refl, Bool, true, false, List, [], ◌∷◌, ◌++◌, ℕ, zero, suc, ◌+◌, ◌-◌, ◌≤◌, ◌<◌, length}
-use Rattle.std.proofs.Common.{ap, sym, ◌∙◌, append_assoc, arith}
+use Rattle.std.specs.Prelude.{◌≡◌, Bool, true, false, List, ◌∷◌, ◌++◌, ℕ, ◌+◌, ◌≤◌, length}
+use Rattle.std.proofs.Common.{arith}
 use Rattle.base.specs.Pick.{pick}
 use Rattle.syntax.specs.Runs.{Run, Keeps, sent_of, final_of, kind_bins, more_bins, runs_bins}
 use Rattle.syntax.specs.KeepLaws.{keeps_le, keeps-room}

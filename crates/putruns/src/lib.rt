@@ -11,76 +11,60 @@ ghost use Rattle.syntax.specs.RunsLaws.{MoreOk};
 ghost use Rattle.putruns.specs.Going.{Going};
 
 use flatplan::run_in;
+use model::PaletteRun;
 use put::put_bin;
 use putrun::put_run;
-use runstate::{bit_of, is_last};
+use runstate::is_last;
 
 // Whether palette_run_type_flag is sent.
+#[tactic(auto, unfolding(syntax::specs::Runs::asked))]
 fn asked(size: u32, n: u32, scan: u32, prev: bool, left: u32) -> bool
     requires { scan ≤ 1024 }
     ensures { result ≡ R.asked size n scan prev left }
 {
-    if prev {
-        return false;
-    }
-    if scan < size {
-        return false;
-    }
-    if left == 0 {
-        return false;
-    }
-    scan + 1 < n
+    !prev && size <= scan && 0 < left && scan + 1 < n
 }
 
 // The byte of a run's kind.
 pub fn kind_byte(above: bool) -> u8
     ensures { result ≡ 1 * 2 + bit above }
 {
-    if above { 3 } else { 2 }
+    2 + u8::from(above)
 }
 
-// palette_run_type_flag, where it is sent.
-fn put_kind(
-    list: &mut [u8],
-    at: usize,
-    size: u32,
-    n: u32,
+// Where the runs are: the next cell along the scan, the kind of the run before it, and the index runs left.
+#[derive(Clone, Copy)]
+struct Place {
     scan: u32,
     prev: bool,
     left: u32,
-    above: bool,
-) -> usize
-    requires { (scan ≤ 1024) × (at + 32 < 2 ^ 63) }
-    ensures laid { Laid list.old at (R.kind_bins size n scan prev left above) result list.new }
+}
+
+// palette_run_type_flag, where it is sent.
+#[tactic(auto, unfolding(syntax::specs::Runs::kind_bins), using(base::specs::Laid::laid_none))]
+fn put_kind(list: &mut [u8], at: usize, size: u32, n: u32, place: Place, above: bool) -> usize
+    requires { (place.scan ≤ 1024) × (at + 32 < 2 ^ 63) }
+    ensures laid { Laid list.old at (R.kind_bins size n place.scan place.prev place.left above) result list.new }
     ensures near { result ≤ at + 1 }
 {
-    if asked(size, n, scan, prev, left) {
+    if asked(size, n, place.scan, place.prev, place.left) {
         return put_bin(list, at, kind_byte(above));
     }
     at
 }
 
 // The length of a run, where it is sent; the longest run is the writer's.
-fn put_more(
-    list: &mut [u8],
-    at: usize,
-    n: u32,
-    scan: u32,
-    left: u32,
-    fin: bool,
-    above: bool,
-    sent: u32,
-    more: u32,
-) -> usize
-    requires { (scan < n) × (n ≤ 1024) × (left ≤ 1024) × (at + 64 < 2 ^ 63) × MoreOk n scan left fin above more }
-    ensures laid { Laid list.old at (R.more_bins n scan left fin above sent more) result list.new }
+#[tactic(auto, unfolding(syntax::specs::Runs::more_bins), using(base::specs::Laid::laid_none))]
+fn put_more(list: &mut [u8], at: usize, n: u32, place: Place, fin: bool, run: PaletteRun) -> usize
+    requires { (place.scan < n) × (n ≤ 1024) × (place.left ≤ 1024) × (at + 64 < 2 ^ 63) × MoreOk n place.scan place.left fin run.above run.more }
+    ensures laid { Laid list.old at (R.more_bins n place.scan place.left fin run.above run.sent run.more) result list.new }
     ensures near { result ≤ at + 64 }
 {
-    if is_last(left, fin, above) {
+    if is_last(place.left, fin, run.above) {
         return at;
     }
-    let kept = scan + 1 + left + bit_of(fin);
-    put_run(list, at, n - kept, above, sent, more)
+    let kept = place.scan + 1 + place.left + u32::from(fin);
+    put_run(list, at, n - kept, run.above, run.sent, run.more)
 }
 
 // The index runs left after a run.
@@ -88,7 +72,7 @@ fn left_after(left: u32, above: bool) -> u32
     requires { pick above 0 1 ≤ left }
     ensures { result + pick above 0 1 ≡ left }
 {
-    if above { left } else { left - 1 }
+    left - u32::from(!above)
 }
 
 // All runs: the first `count` of the records, of which `total` are index runs and the last is of kind `fin`.
@@ -107,18 +91,18 @@ pub fn put_runs(
     ensures near { result ≤ at + 65 * count }
 {
     let mut to = at;
-    let mut i: usize = 0;
-    let mut scan: u32 = 0;
-    let mut prev = false;
-    let mut left = total;
-    while i < count {
-        let r = run_in(runs, 4 * i);
-        to = put_kind(list, to, size, n, scan, prev, left, r.above);
-        left = left_after(left, r.above);
-        to = put_more(list, to, n, scan, left, fin, r.above, r.sent, r.more);
-        scan = scan + r.more + 1;
-        prev = r.above;
-        i += 1;
+    let mut place = Place {
+        scan: 0,
+        prev: false,
+        left: total,
+    };
+    for i in 0..count {
+        let run = run_in(runs, 4 * i);
+        to = put_kind(list, to, size, n, place, run.above);
+        place.left = left_after(place.left, run.above);
+        to = put_more(list, to, n, place, fin, run);
+        place.scan = place.scan + run.more + 1;
+        place.prev = run.above;
     }
     to
 }

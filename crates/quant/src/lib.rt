@@ -5,17 +5,8 @@ ghost use Rattle.std.specs.Prelude.{◌≡◌, false, ◌-◌, ◌≤◌, ◌<�
 ghost use Rattle.h265.specs.Escape.{from_zero, scale_of, step_at, escape_value};
 ghost use Rattle.quant.specs.Quant.{tolerance_of, gap, nearer, start_of, level_of, dist};
 
-// A signed number, negatives as 0.
-fn from_zero(x: i32) -> u64
-    ensures { (result ≡ from_zero x) × (result ≤ 2147483647) }
-{
-    if x < 0 {
-        return 0;
-    }
-    x as u64
-}
-
 // The scale of a remainder by 6.
+#[tactic(auto, unfolding(h265::specs::Escape::scale_of))]
 fn scale(r: u64) -> u64
     requires { r < 6 }
     ensures { result ≡ scale_of r }
@@ -35,7 +26,7 @@ pub fn step(qp: i32) -> u64
     requires { qp ≤ℤ pos 75 }
     ensures { (result ≡ step_at qp) × (40 ≤ result) × (result ≤ 294912) }
 {
-    let q = from_zero(qp);
+    let q = qp.max(0) as u64;
     scale(q % 6) << (q / 6)
 }
 
@@ -45,52 +36,23 @@ pub fn tolerance(lossless: bool, step: u64) -> u64
     ensures { result ≡ tolerance_of lossless step }
 {
     if lossless {
-        return 0;
+        0
+    } else if 1984 <= step {
+        16
+    } else {
+        (step + 64) / 128
     }
-    if 1984 <= step {
-        return 16;
-    }
-    (step + 64) / 128
-}
-
-// How far two numbers are apart.
-fn apart(a: u64, b: u64) -> u64
-    ensures { result ≡ gap a b }
-{
-    if a < b {
-        return b - a;
-    }
-    a - b
-}
-
-// The greater of two numbers.
-fn greater(a: u64, b: u64) -> u64
-    ensures { result ≡ max a b }
-{
-    if a < b {
-        return b;
-    }
-    a
-}
-
-// The lesser of two numbers.
-fn lesser(a: u64, b: u64) -> u64
-    ensures { result ≡ min a b }
-{
-    if a < b {
-        return a;
-    }
-    b
 }
 
 // The largest difference of a component of two packed colours.
+#[tactic(auto, unfolding(crate::specs::Quant::dist))]
 pub fn distance(a: u64, b: u64) -> u64
     ensures { result ≡ dist a b }
 {
-    let y = apart(a % 65536, b % 65536);
-    let u = apart(a / 65536 % 65536, b / 65536 % 65536);
-    let v = apart(a / 4294967296 % 65536, b / 4294967296 % 65536);
-    greater(y, greater(u, v))
+    let y = (a % 65536).abs_diff(b % 65536);
+    let u = (a / 65536 % 65536).abs_diff(b / 65536 % 65536);
+    let v = (a / 4294967296 % 65536).abs_diff(b / 4294967296 % 65536);
+    y.max(u.max(v))
 }
 
 // The value of a level from 0 on.
@@ -98,7 +60,7 @@ fn decode(step: u64, most: u64, level: u64) -> u64
     requires { (step ≤ 294912) × (level ≤ 2147483647) }
     ensures { result ≡ escape_value false step most (pos level) }
 {
-    lesser((level * step + 32) / 64, most)
+    ((level * step + 32) / 64).min(most)
 }
 
 // The value of any level.
@@ -106,22 +68,25 @@ pub fn dequant_escape(lossless: bool, step: u64, most: u64, level: i32) -> u64
     requires { step ≤ 294912 }
     ensures { result ≡ escape_value lossless step most level }
 {
-    let n = from_zero(level);
+    let n = level.max(0) as u64;
     if lossless {
-        return lesser(n, most);
+        n.min(most)
+    } else {
+        decode(step, most, n)
     }
-    decode(step, most, n)
 }
 
 // Of two levels the one with the lesser error, the first on ties.
+#[tactic(auto, unfolding(crate::specs::Quant::nearer))]
 fn the_nearer(step: u64, most: u64, v: u64, a: u64, b: u64) -> u64
     requires { (step ≤ 294912) × (a ≤ 2147483647) × (b ≤ 2147483647) }
     ensures { (result ≡ nearer step most v a b) × (result ≤ 2147483647) }
 {
-    if apart(decode(step, most, b), v) < apart(decode(step, most, a), v) {
-        return b;
+    if decode(step, most, b).abs_diff(v) < decode(step, most, a).abs_diff(v) {
+        b
+    } else {
+        a
     }
-    a
 }
 
 // Where the search for a level starts.
@@ -132,25 +97,16 @@ fn start(step: u64, v: u64) -> u64
     (128 * v + step) / (2 * step)
 }
 
-// One less, none below 0.
-fn one_less(s: u64) -> u64
-    ensures { (result ≡ s - 1) × (result ≤ s) }
-{
-    if s == 0 {
-        return 0;
-    }
-    s - 1
-}
-
 // The level of a value.
+#[tactic(auto, unfolding(crate::specs::Quant::level_of, crate::specs::Quant::quantised))]
 pub fn quantize_escape(lossless: bool, step: u64, most: u64, v: u64) -> u64
     requires { (1 ≤ step) × (step ≤ 294912) × (v ≤ 65535) }
     ensures { result ≡ level_of lossless step most v }
 {
     if lossless {
-        return lesser(v, most);
+        return v.min(most);
     }
     let s = start(step, v);
-    let low = the_nearer(step, most, v, one_less(s), s);
+    let low = the_nearer(step, most, v, s.saturating_sub(1), s);
     the_nearer(step, most, v, low, s + 1)
 }

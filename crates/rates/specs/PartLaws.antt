@@ -1,12 +1,11 @@
 -- The parts that are added are the bins that are sent, the same bins in the same order.
-use Rattle.std.specs.Prelude.{◌≡◌, refl, Bool, true, false, List, [], ◌∷◌, ◌++◌, ℕ, zero, suc, ◌+◌, ◌*◌, ◌-◌, ◌/◌, ◌%◌, ◌^◌, ◌≤◌, ◌<◌, ltb, eqb, length}
-use Rattle.std.proofs.Common.{ap, sym, ◌∙◌, append_assoc, append-nil, arith, add-one, lt-ltb, le-ltb, ltb-true, ltb-false, eqb-true}
-use Rattle.std.proofs.lemmas.Bool.{eqb-false}
-use Rattle.base.specs.Pick.{pick, either}
-use Rattle.h265.specs.Strings.{bits, flog, flog_aux, short, tb, unary, run_class, prefix_of, suffixes, suffix_bins, run_bins}
+use Rattle.std.specs.Prelude.{◌≡◌, refl, Bool, List, [], ◌∷◌, ◌++◌, ℕ, zero, suc, ◌+◌, ◌*◌, ◌-◌, ◌%◌, ◌^◌, ◌≤◌, ◌<◌, ltb, eqb}
+use Rattle.std.proofs.Common.{ap, sym, append_assoc, append-nil, arith, ltb-true, ltb-false}
+use Rattle.base.specs.Pick.{either}
+use Rattle.h265.specs.Strings.{bits, flog, short, tb, unary, run_class, prefix_of, suffixes, suffix_bins, run_bins}
 use Rattle.h265.specs.StringLaws.{flog-low, flog-high, flog-is}
 use Rattle.h265.proofs.TbLaws.{tb-short, tb-long}
-use Rattle.h265.proofs.RunLaws.{runs_zero, runs-some, suffixes-one, suffix_in}
+use Rattle.h265.proofs.RunLaws.{suffixes-one, suffix_in}
 use Rattle.base.specs.Powers.{pow_next}
 use Rattle.rates.specs.Rates.{Part, Bin, Row, bins_of, singly, tb_parts, suffix_parts, run_parts}
 

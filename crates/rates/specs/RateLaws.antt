@@ -1,6 +1,6 @@
 -- What the functions' proofs want of the definitions.
-use Rattle.std.specs.Prelude.{◌≡◌, refl, Bool, true, false, ◌&&◌, ℕ, ◌+◌, ◌≤◌, ◌<◌, leb, length}
-use Rattle.std.proofs.Common.{ap, sym, ◌∙◌, lt-ltb, le-ltb, leb-true}
+use Rattle.std.specs.Prelude.{◌≡◌, refl, Bool, true, false, ◌&&◌, ℕ, ◌+◌, ◌≤◌, ◌<◌, leb}
+use Rattle.std.proofs.Common.{sym, lt-ltb, le-ltb, leb-true}
 use Rattle.base.specs.Pick.{pick, true_false}
 use Rattle.base.specs.Upto.{number}
 use Rattle.h265.specs.Strings.{flog, short, tb}

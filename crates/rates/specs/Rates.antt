@@ -1,6 +1,6 @@
 -- The rate model: the test of its eighteen rates (refusal 6), and what a value's bins cost by it, in bits.
 -- A sum starts at 0.0 and adds from the left, as source 000 adds: each bin of a run's prefix by itself, the bits of a fixed-length number at one go.
-use Rattle.std.specs.Prelude.{Bool, true, false, List, [], ◌∷◌, ◌++◌, ℕ, zero, suc, ◌+◌, ◌*◌, ◌-◌, ◌/◌, ◌%◌, ◌^◌, eqb, ltb, leb, Float, get_or, length}
+use Rattle.std.specs.Prelude.{Bool, List, [], ◌∷◌, ◌++◌, ℕ, zero, suc, ◌+◌, ◌-◌, ◌/◌, ◌%◌, ◌^◌, eqb, ltb, leb, Float, get_or, length}
 use Rattle.std.specs.Float.{nan, binary32}
 use Rattle.std.specs.Float.Ieee.{add, div, le}
 use Rattle.base.specs.Pick.{pick}

@@ -40,16 +40,14 @@ pub fn rates_in(m: RateModel) -> bool
     ensures { result ≡ rates_in m }
 {
     let mut ok = pair_in(m.run_type);
-    let mut i: usize = 0;
-    while i < 8 {
-        let p = m.run_prefix[i];
-        ok = ok & pair_in(p);
-        i += 1;
+    for p in &m.run_prefix {
+        ok = ok & pair_in(*p);
     }
     ok
 }
 
 // n as a float.
+// Stays a function: it states that the float is exact.
 pub fn number(n: u32) -> f32
     requires { n ≤ 16777216 }
     ensures { result ≡ U.number n }
@@ -58,19 +56,17 @@ pub fn number(n: u32) -> f32
 }
 
 // The rates of a class's bins.
+// Stays a number: a class past 10 is answered too.
 fn class_rates(m: RateModel, class: u8) -> Pair
     ensures { result ≡ class_rates m class }
 {
-    if class == 1 {
-        return m.run_type;
-    }
-    if (3 <= class) & (class <= 10) {
-        let i = (class - 3) as usize;
-        return m.run_prefix[i];
-    }
-    Pair {
-        bin0: 1.0,
-        bin1: 1.0,
+    match class {
+        1 => m.run_type,
+        3..=10 => m.run_prefix[usize::from(class - 3)],
+        _ => Pair {
+            bin0: 1.0,
+            bin1: 1.0,
+        },
     }
 }
 
@@ -79,10 +75,7 @@ pub fn bin_rate(m: RateModel, byte: u8) -> f32
     ensures { result ≡ rate_of m byte }
 {
     let p = class_rates(m, byte / 2);
-    if byte % 2 == 0 {
-        return p.bin0;
-    }
-    p.bin1
+    if byte % 2 == 0 { p.bin0 } else { p.bin1 }
 }
 
 // The rate of an index sent.
@@ -92,9 +85,10 @@ pub fn index_bits(sent: u32, alphabet: u32) -> f32
 {
     let k = flog(alphabet);
     if sent < pow2(k + 1) - alphabet {
-        return number(k);
+        number(k)
+    } else {
+        number(k + 1)
     }
-    number(k + 1)
 }
 
 // An index run's share of the index count.

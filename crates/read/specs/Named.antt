@@ -1,5 +1,5 @@
 -- Every refusal of the reader has a number from 1 on.
-use Rattle.std.specs.Prelude.{◌≡◌, Bool, List, ℕ, ◌≤◌, eqb, length}
+use Rattle.std.specs.Prelude.{◌≡◌, Bool, List, ℕ, ◌≤◌, eqb}
 use Rattle.std.proofs.Common.{arith}
 use borrow.Author.Tests.{eqb-false}
 use Rattle.base.specs.Answer.{Answer, Value, Refused}

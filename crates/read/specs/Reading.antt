@@ -1,8 +1,9 @@
 -- What the reader answers: document 01's refusals 1, 2, 5 and 9 in their order, then the parse of the block.
-use Rattle.std.specs.Prelude.{◌≡◌, refl, Bool, true, false, List, [], ◌∷◌, ℕ, ◌*◌, ◌≤◌, ◌<◌, leb, eqb, take}
-use Rattle.std.proofs.Common.{sym, ◌∙◌, arith}
+use Rattle.std.specs.Prelude.{◌≡◌, Result, Ok, Err, Bool, true, List, [], ◌∷◌, ℕ, ◌*◌, ◌≤◌, leb, eqb, take}
+use Rattle.std.proofs.Common.{arith}
 use borrow.Author.Tests.{leb-true, ne_eqb}
-use Rattle.base.specs.Answer.{Answer, Refused}
+use Rattle.base.specs.Answer.{Answer}
+use Rattle.base.specs.Answer as A
 use Rattle.base.specs.Pick.{pick}
 use Rattle.base.specs.Refusals.{refused_not}
 use Rattle.base.specs.Tests.{every, refusal, both}
@@ -10,8 +11,11 @@ use Rattle.model.specs.ConfigLaws.{depth-bounds}
 use Rattle.model.specs.Domain.{depth_in, size_in, even_in, predictor_in}
 use Rattle.model.specs.DomainLaws.{size_bounds}
 use Rattle.model.specs.declared.PalettePredictor.{PalettePredictor}
-use Rattle.readblock.specs.declared.BlockRead.{BlockRead}
-use Rattle.readblock.specs.Read.{call_for, refused_of, answer_of}
+use Rattle.refusal.specs.Refusal.{number_of}
+use Rattle.refusal.specs.declared.Refusal.{Refusal}
+use Rattle.refusal.specs.declared.Refusal.TheVariants.{Config, Geometry, Plane, Sample, Predictor, Rate, Block, Runs, Room, BinsEnd, BinClass, Value, TooManyColors, TooManyEscapes, Smoothing, InputFile}
+use Rattle.refusal.specs.declared.Refused.{Refused}
+use Rattle.readblock.specs.Read.{BlockRead, call_for, refused_of, answer_of}
 use Rattle.syntax.specs.Block.{Call, Told, read_block}
 
 -- 1: format or depth outside the domain
@@ -27,6 +31,11 @@ unfoldable pub read_refusal : ℕ → ℕ → ℕ → ℕ → PalettePredictor �
 read_refusal size format luma chroma p room =
     refusal ((formats_in format luma chroma, 1) ∷ (sizes_in format size, 2) ∷ (predictor_in format luma chroma p, 5) ∷ (leb (size * size) room, 9) ∷ [])
 
+-- the number of a test's answer; 0 where it refuses nothing
+abbrev pub tested : Result (Unit {0}) Refused → ℕ
+tested (Ok u) = 0
+tested (Err e) = number_of e.refusal
+
 -- the call with the predictor's entries
 abbrev pub call_with : ℕ → ℕ → ℕ → ℕ → Bool → PalettePredictor → Call
 call_with size format luma chroma lossless p = call_for size format luma chroma lossless (take p.size p.entries)
@@ -36,7 +45,7 @@ unfoldable pub read_answer : ℕ → ℕ → ℕ → ℕ → Bool → PalettePre
 read_answer size format luma chroma lossless p room l =
     pick (eqb (read_refusal size format luma chroma p room) 0)
     (read_block (call_with size format luma chroma lossless p) l 0)
-    (Refused (read_refusal size format luma chroma p room) 0)
+    (A.Refused (read_refusal size format luma chroma p room) 0)
 
 unfoldable pub read_of : ℕ → ℕ → ℕ → ℕ → Bool → PalettePredictor → ℕ → List ℕ → BlockRead
 read_of size format luma chroma lossless p room l = answer_of (call_with size format luma chroma lossless p) (read_answer size format luma chroma lossless p room l)

@@ -1,7 +1,7 @@
 -- The reader's stages as the code has them, and that they are the definition's.
-use Rattle.std.specs.Prelude.{◌≡◌, Bool, true, ℕ, zero, suc, ◌+◌, ◌*◌, ◌-◌, ◌≤◌, ◌<◌, ltb, eqb, length, take, drop, get_or, set, replicate}
+use Rattle.std.specs.Prelude.{◌≡◌, Bool, ℕ, zero, suc, ◌+◌, ◌-◌, ◌≤◌, ◌<◌, ltb, length, take, drop, get_or, set, replicate}
 use Rattle.std.proofs.Math.Path.{refl}
-use Rattle.std.proofs.Common.{ap, sym, ◌∙◌, mul-le-mul, add-one, length-append, drop_at, length-take-le, lt-ltb, ltb-true, ltb-false}
+use Rattle.std.proofs.Common.{ap, sym, ◌∙◌, add-one, length-take-le, lt-ltb, ltb-true}
 use Rattle.std.proofs.Math.Bool.{false}
 use mathlib.Core.List.{List, [], ◌∷◌, ◌++◌}
 use native.Mathlib.Omega.{arith}
@@ -9,34 +9,24 @@ use Rattle.std.proofs.Math.ListN.{length-replicate, replicate-append-replicate}
 use Rattle.base.specs.Answer.{Answer, Value, Refused, onward}
 use Rattle.base.specs.Codes.{Each, All}
 use Rattle.base.specs.Counted as C
-use Rattle.base.specs.Lists.{padded, padded-is, padded-take}
-use Rattle.base.specs.Pick.{pick, either, true_false}
-use Rattle.get.specs.As.{placed}
-use Rattle.get.specs.declared.Next.{Next}
-use Rattle.get.specs.declared.Next.TheVariants as N
-use Rattle.getentries.specs.Read.{lent}
+use Rattle.base.specs.Lists.{padded, padded-is}
+use Rattle.base.specs.Pick.{either}
 use Rattle.getescapes.specs.Read.{levels, all_at, all_are}
 use Rattle.getmap.specs.declared.MapRead.{MapRead}
-use Rattle.getpalette.specs.declared.PaletteRead.{PaletteRead}
-use Rattle.getpalette.specs.Read.{blank_read, palette_read}
-use Rattle.h265.specs.Reuse.{trues}
+use Rattle.getpalette.specs.Read.{PaletteRead, placed_at}
+use Rattle.getpalette.specs.declared.PaletteRead as P
 use Rattle.h265.specs.Strings.{bit}
-use Rattle.model.specs.Domain.{no_color}
 use Rattle.model.specs.Whole.{no_levels}
 use Rattle.model.specs.declared.Levels as D
 use Rattle.replay.specs.Into.{Short}
-use Rattle.syntax.specs.Block.{Entry, Call, Palette, Map, Levels, Sent, colours, max_index, cells_in, cells_of, chosen, alphabets, entries_at, signalled_at, palette_at, map_at, chroma_due, levels_at, sent_at, told_by, read_block}
-use Rattle.syntax.proofs.BlockLaws.{length-chosen}
+use Rattle.syntax.specs.Block.{Call, Palette, Map, Levels, colours, max_index, cells_in, cells_of, alphabets, map_at, levels_at}
 use Rattle.syntax.specs.KeepLaws.{sent_above, sent_index}
 use Rattle.syntax.specs.MapLaws.{Under, CodedOk, MapOk}
-use Rattle.syntax.specs.PaletteLaws.{CallOk, PaletteOk}
-use Rattle.syntax.proofs.PaletteLaws.{palette_code}
 use Rattle.syntax.specs.Records.{no_run}
 use Rattle.syntax.specs.Replay.{replay}
 use Rattle.syntax.proofs.ReplayLaws.{length-replay}
 use Rattle.syntax.specs.Runs.{Run, Keeps, sent_of}
-use Rattle.readblock.specs.declared.BlockRead.{BlockRead}
-use Rattle.readblock.specs.Read.{call_for, zip_levels, cu_read, refused_of, answer_of}
+use Rattle.readblock.specs.Read.{BlockRead, zip_levels, refused_of}
 
 -- the palette and the map that were read
 abbrev pub pal_of : ℕ → PaletteRead → Palette
@@ -89,6 +79,12 @@ made_of c count pal (Value (m, v) t) =
     (padded 1024 no_levels (zip_levels v.y v.cb v.cr))
     (padded 1024 no_run m.runs) (length m.runs) t
 made_of c count pal (Refused k q) = refused_of k q
+
+-- the palette's place is no part of it
+pub made_placed : (c : Call) (count : ℕ) (r : P.PaletteRead) (p q : ℕ) (a : Answer (Map × Levels)) → made_of c count (placed_at r p) a ≡ made_of c count (placed_at r q) a
+unfolding made_of made_with
+made_placed c count r p q (Value (m, v) t) = refl
+made_placed c count r p q (Refused k t) = refl
 
 -- ---- the levels of each cell
 

@@ -1,27 +1,23 @@
 -- The palette that was read, and that palette, map and levels one after the other are the definition's block.
 use Rattle.std.proofs.Math.Path.{◌≡◌, refl, ap, sym, subst}
 use Rattle.std.proofs.Common.{◌∙◌}
-use Rattle.std.specs.Prelude.{Bool, true, List, [], ◌∷◌, ◌++◌, ℕ, ◌+◌, ◌*◌, ◌-◌, ◌≤◌, ◌<◌, take, drop}
+use Rattle.std.specs.Prelude.{Bool, List, [], ◌++◌, ℕ, ◌*◌, ◌-◌, ◌≤◌}
 use Rattle.std.proofs.Math.Bool.{false}
 use native.Mathlib.Omega.{arith}
 use Rattle.std.proofs.Math.ListN.{length, length-append}
 use Rattle.std.proofs.Math.Seq.{drop_at}
 use Rattle.base.specs.Answer.{Answer, Value, Refused, onward}
-use Rattle.base.specs.Lists.{padded, padded-take}
-use Rattle.get.specs.declared.Next.{Next}
-use Rattle.get.specs.declared.Next.TheVariants as N
+use Rattle.base.specs.Lists.{padded-take}
 use Rattle.getentries.specs.Read.{lent}
-use Rattle.getpalette.specs.declared.PaletteRead.{PaletteRead}
-use Rattle.getpalette.specs.Read.{blank_read, palette_read}
+use Rattle.getpalette.specs.Read.{PaletteRead, blank_read, palette_read}
 use Rattle.h265.specs.Reuse.{trues}
 use Rattle.model.specs.Domain.{no_color}
-use Rattle.syntax.specs.Block.{Entry, Call, Palette, Map, Levels, Sent, colours, max_index, cells_in, cells_of, chosen, entries_at, palette_at, map_at, chroma_due, levels_at, sent_at, told_by, read_block}
+use Rattle.syntax.specs.Block.{Entry, Call, Palette, Map, Levels, colours, max_index, cells_of, chosen, entries_at, palette_at, map_at, chroma_due, levels_at, sent_at, told_by, read_block}
 use Rattle.syntax.proofs.BlockLaws.{length-chosen}
 use Rattle.syntax.specs.PaletteLaws.{CallOk, PaletteOk}
 use Rattle.syntax.proofs.PaletteLaws.{palette_code}
-use Rattle.readblock.specs.declared.BlockRead.{BlockRead}
 use Rattle.readblock.specs.Read.{call_for, cu_read, refused_of, answer_of}
-use Rattle.readblock.specs.Made.{pal_of, top_of, levels_to, rest_at, made_with, made_of}
+use Rattle.readblock.specs.Made.{pal_of, levels_to, rest_at, made_with, made_of}
 
 module _ (size format luma chroma : ℕ) (lossless : Bool) (old : List Entry) (count : ℕ) (l : List ℕ) (n : length old ≡ count) where
   abbrev call : Call
@@ -40,17 +36,17 @@ module _ (size format luma chroma : ℕ) (lossless : Bool) (old : List Entry) (c
 
   -- ---- refused
 
-  pub palette_refused : (pal : PaletteRead) (k q : ℕ) → pal ≡ palette_read old (palette_at (lent 64 format luma chroma old) l 0) → pal.next ≡ N.Refused k q → refused_of k q ≡ answer_of call (read_block call l 0)
+  pub palette_refused : (pal : PaletteRead) (k q : ℕ) → pal ≡ palette_read old (palette_at (lent 64 format luma chroma old) l 0) → pal.next ≡ Refused k q → refused_of k q ≡ answer_of call (read_block call l 0)
   unfolding read_block sent_at answer_of palette_read blank_read
   palette_refused pal k q e g = of (palette_at (lent 64 format luma chroma old) l 0) refl
     where
       of : (a : Answer Palette) → palette_at (lent 64 format luma chroma old) l 0 ≡ a → refused_of k q ≡ answer_of call (read_block call l 0)
       of (Value x t) h =
-          let z : N.At t ≡ N.Refused k q = sym (ap (λ (y : PaletteRead). y.next) (e ∙ ap (palette_read old) h)) ∙ g in
+          let z : Value tt t ≡ Refused k q = sym (ap (λ (y : PaletteRead). y.next) (e ∙ ap (palette_read old) h)) ∙ g in
           let o : ◌≡◌ {A = ℕ} 0 1 = cc in
           absurd (omega arith)
       of (Refused m t) h =
-          let z : N.Refused m t ≡ N.Refused k q = sym (ap (λ (y : PaletteRead). y.next) (e ∙ ap (palette_read old) h)) ∙ g in
+          let z : Refused m t ≡ Refused k q = sym (ap (λ (y : PaletteRead). y.next) (e ∙ ap (palette_read old) h)) ∙ g in
           let a : m ≡ k = cc in
           let b : t ≡ q = cc in
           rw (sym (same_palette 0) ∙ h, a, b)
@@ -76,14 +72,14 @@ module _ (size format luma chroma : ℕ) (lossless : Bool) (old : List Entry) (c
         drop_at (chosen x.flags old) x.fresh (colours x - length x.fresh) d,
       )
 
-  pub palette_got : (pal : PaletteRead) (q : ℕ) → CallOk call → pal ≡ palette_read old (palette_at (lent 64 format luma chroma old) l 0) → pal.next ≡ N.At q → Got pal q
+  pub palette_got : (pal : PaletteRead) (q : ℕ) → CallOk call → pal ≡ palette_read old (palette_at (lent 64 format luma chroma old) l 0) → pal.next ≡ Value tt q → Got pal q
   unfolding palette_read blank_read
   palette_got pal q ok e g = of (palette_at (lent 64 format luma chroma old) l 0) refl
     where
       of : (a : Answer Palette) → palette_at (lent 64 format luma chroma old) l 0 ≡ a → Got pal q
       of (Value x t) h =
           let v : pal ≡ palette_read old (Value x t) = e ∙ ap (palette_read old) h in
-          let z : N.At t ≡ N.At q = sym (ap (λ (y : PaletteRead). y.next) v) ∙ g in
+          let z : Value tt t ≡ Value tt q = sym (ap (λ (y : PaletteRead). y.next) v) ∙ g in
           let b : t ≡ q = cc in
           let f : palette_at call l 0 ≡ Value x t = sym (same_palette 0) ∙ h in
           let k : PaletteOk call x = ((palette_code call ok).back l 0 t x f).1 in
@@ -97,7 +93,7 @@ module _ (size format luma chroma : ℕ) (lossless : Bool) (old : List Entry) (c
             colours_are = ap colours y ∙ sym s;
           }
       of (Refused m t) h =
-          let z : N.Refused m t ≡ N.At q = sym (ap (λ (y : PaletteRead). y.next) (e ∙ ap (palette_read old) h)) ∙ g in
+          let z : Refused m t ≡ Value tt q = sym (ap (λ (y : PaletteRead). y.next) (e ∙ ap (palette_read old) h)) ∙ g in
           let o : ◌≡◌ {A = ℕ} 0 1 = cc in
           absurd (omega arith)
 

@@ -11,12 +11,12 @@ pub fn read_full(input: &mut impl Read, room: &mut [u8]) -> io::Result<usize>
     ensures { IfOk result (λ n. n ≤ length room.new) }
 {
     let mut at = 0;
+    // Stays a loop over `read`: std's `read_exact` does not say how many bytes came before the input's end, and `read_to_end` takes the heap.
     while at < room.len() {
-        let n = input.read(&mut room[at..])?;
-        if n == 0 {
-            break;
+        match input.read(&mut room[at..])? {
+            0 => break,
+            n => at += n,
         }
-        at += n;
     }
     Ok(at)
 }

@@ -1,5 +1,5 @@
 -- What the reader lays there is room for; what stands in the lent list after it, and what stays.
-use Rattle.std.specs.Prelude.{◌≡◌, Bool, false, ℕ, ◌+◌, ◌*◌, ◌≤◌, eqb, leb, ltb, take, drop}
+use Rattle.std.specs.Prelude.{◌≡◌, Bool, false, ℕ, ◌*◌, ◌≤◌, eqb, leb, ltb, take, drop}
 use Rattle.std.proofs.Math.Path.{refl}
 use Rattle.std.proofs.Common.{ap, mul-le-mul, arith, length-take}
 use mathlib.Core.List.{List, [], ◌∷◌}
@@ -11,13 +11,11 @@ use Rattle.base.specs.Answer.{Answer, Value, Refused}
 use Rattle.base.specs.Lists.{padded-length}
 use Rattle.base.specs.Pick.{either}
 use Rattle.base.specs.Refusals.{refused_not}
-use Rattle.base.specs.Tests.{refusal}
 use Rattle.model.specs.Domain.{predictor_in}
 use Rattle.model.specs.declared.PalettePredictor.{PalettePredictor}
 use Rattle.model.specs.declared.PaletteRun.{PaletteRun}
 use Rattle.read.specs.Reading.{formats_in, sizes_in, read_refusal, call_with, read_answer, read_of, Fit, fit}
-use Rattle.readblock.specs.declared.BlockRead.{BlockRead}
-use Rattle.readblock.specs.Read.{refused_of, answer_of}
+use Rattle.readblock.specs.Read.{BlockRead, refused_of, answer_of}
 use Rattle.syntax.specs.Block.{Call, Told, Map, cells_in, max_index, palette_of, read_block}
 use Rattle.syntax.specs.BlockLaws.{ToldOk}
 use Rattle.syntax.proofs.BlockLaws.{block_code}

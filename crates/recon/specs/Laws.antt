@@ -1,5 +1,5 @@
 -- The planes afterwards from what is laid on them, the answers of the entry point, and what it leaves.
-use Rattle.std.specs.Prelude.{Bool, true, false, not, List, [], ◌∷◌, ◌++◌, ◌≡◌, ℕ, ◌+◌, ◌*◌, ◌≤◌, ◌<◌, eqb, get_or, length}
+use Rattle.std.specs.Prelude.{Bool, true, false, not, List, [], ◌∷◌, ◌≡◌, ℕ, ◌+◌, ◌*◌, ◌≤◌, ◌<◌, eqb, get_or, length}
 use Rattle.std.proofs.Common.{sym, ◌∙◌, div-mul-le_self, arith}
 use borrow.Author.Tests.{ne_eqb, eqb-true, eqb-false, not-true}
 use Rattle.base.specs.Pick.{pick, either}

@@ -10,32 +10,17 @@ ghost use Rattle.sse.specs.Sse.{block_in};
 ghost use Rattle.onto.specs.Onto.{after};
 ghost use Rattle.onto.specs.Laws.{Apt, from_cells, scan_rows};
 ghost use Rattle.targets.specs.Laws.{Ready};
+ghost use Rattle.refusal.specs.Refusal.{code_of};
 ghost use Rattle.recon.specs.Recon.{cell_color, luma_onto, chroma_onto, luma_after, chroma_after, recon_of};
 ghost use Rattle.recon.specs.Laws.{Sized};
 
+use entries::pack_palette;
 use model::{PaletteConfig, PaletteCu, SourceBlock};
-use onto::Onto;
-
-// Division by 1 or 2.
-fn divided(x: usize, by: usize) -> usize
-    requires { (1 ≤ by) × (by ≤ 2) }
-    ensures { result ≡ x / by }
-{
-    if by == 2 {
-        return x / 2;
-    }
-    x
-}
-
-// The greater of two.
-fn greater(a: usize, b: usize) -> usize
-    ensures { result ≡ max a b }
-{
-    if a < b {
-        return b;
-    }
-    a
-}
+use onto::{Onto, put_plane};
+use refusal::Refusal;
+use samples::{sub_h, sub_w};
+use sse::block_in;
+use targets::check_targets;
 
 // The block on the luma plane.
 pub fn luma_onto(stride: usize, g: SourceBlock, size: usize, transpose: bool) -> Onto
@@ -67,19 +52,15 @@ pub fn chroma_onto(
 ) -> Onto
     ensures { result ≡ chroma_onto stride format g size transpose comp }
 {
-    let across = samples::sub_w(format);
-    let down = samples::sub_h(format);
-    let ox = divided(g.x0, across);
-    let oy = divided(g.y0, down);
-    let wide = divided(size, across);
-    let high = divided(size, down);
+    let across = sub_w(format);
+    let down = sub_h(format);
     Onto {
         stride,
         height: g.chh,
-        ox,
-        oy,
-        wide,
-        high,
+        ox: g.x0 / across,
+        oy: g.y0 / down,
+        wide: size / across,
+        high: size / down,
         across,
         down,
         size,
@@ -93,56 +74,28 @@ pub fn block_rows(format: u8, l: Onto, b: Onto) -> usize
     requires { Sized l × Sized b × (b.size ≡ l.size) }
     ensures { (scan_rows l ≤ result) × (1 ≤ format → scan_rows b ≤ result) × (result ≤ l.size) }
 {
-    let n = onto::scan_rows(l);
-    if format == 0 {
-        return n;
-    }
-    let m = onto::scan_rows(b);
-    greater(n, m)
+    let n = l.scan_rows();
+    if format == 0 { n } else { n.max(b.scan_rows()) }
 }
 
-// Whether index k is another than n.
-fn differs(k: u8, n: usize) -> bool
-    ensures { result ≡ not (eqb k n) }
-{
-    k as usize != n
-}
-
-// Whether none of the first m indices is n, an escape.
-fn none_escape(indices: &[u8; 1024], m: usize, n: usize) -> bool
-    requires { m ≤ 1024 }
-    ensures { result ≡ up_to m (λ j. not (eqb (get_or indices.now j 0) n)) }
+// Whether none of the indices is n, an escape.
+fn none_escape(indices: &[u8], n: usize) -> bool
+    ensures { result ≡ up_to (length indices.now) (λ j. not (eqb (get_or indices.now j 0) n)) }
 {
     let mut ok = true;
-    let mut i: usize = 0;
-    while i < m {
-        ok = ok & differs(indices[i], n);
-        i += 1;
+    for k in indices {
+        ok = ok & (usize::from(*k) != n);
     }
     ok
 }
 
-// Entry k; 0 past the palette.
-fn entry(palette: &[u64; 64], k: u8) -> u64
-    requires { length palette.now ≡ 64 }
-    ensures { result ≡ get_or palette.now k 0 }
+// The entries of the first cells, whose indices these are; 0 for an index past the palette.
+fn paint(palette: &[u64; 64], indices: &[u8], out: &mut [u64; 1024])
+    requires { (length indices.now ≤ 1024) × (length palette.now ≡ 64) }
+    ensures { out.new ≡ laid (λ j. get_or palette.now (get_or indices.now j 0) 0) out.old 0 (length indices.now) }
 {
-    if k < 64 {
-        return palette[k as usize];
-    }
-    0
-}
-
-// The entries of the first m cells.
-fn paint(palette: &[u64; 64], indices: &[u8; 1024], m: usize, out: &mut [u64; 1024])
-    requires { (m ≤ 1024) × (length palette.now ≡ 64) }
-    ensures { out.new ≡ laid (λ j. get_or palette.now (get_or indices.now j 0) 0) out.old 0 m }
-{
-    let mut i: usize = 0;
-    while i < m {
-        let v = entry(palette, indices[i]);
-        out[i] = v;
-        i += 1;
+    for (i, k) in indices.iter().enumerate() {
+        out[i] = palette.get(usize::from(*k)).copied().unwrap_or(0);
     }
 }
 
@@ -151,16 +104,22 @@ fn cell_colors(c: PaletteConfig, cu: PaletteCu, m: usize, out: &mut [u64; 1024])
     requires { (config_in c ≡ true) × (m ≤ 1024) }
     ensures { out.new ≡ laid (cell_color c cu) out.old 0 m }
 {
-    let p = cu.palette;
-    let palette = entries::pack_palette(p);
-    let indices = cu.indices;
-    if none_escape(&indices, m, cu.palette_size) {
-        paint(&palette, &indices, m, out);
+    let palette = pack_palette(cu.palette);
+    let indices = &cu.indices[..m];
+    if none_escape(indices, cu.palette_size) {
+        paint(&palette, indices, out);
         return;
     }
     let s = levels::scale_of(c);
-    let escapes = cu.escapes;
-    levels::values(s, &palette, cu.palette_size, &indices, escapes, m, out);
+    levels::values(
+        s,
+        &palette,
+        cu.palette_size,
+        &cu.indices,
+        cu.escapes,
+        m,
+        out,
+    );
 }
 
 // The block onto the chroma planes, where there are any.
@@ -172,8 +131,8 @@ pub fn put_chroma(format: u8, cb: &mut [u16], cr: &mut [u16], values: &[u64], b:
     if format == 0 {
         return;
     }
-    onto::put_plane(cb, values, b);
-    onto::put_plane(cr, values, r);
+    put_plane(cb, values, b);
+    put_plane(cr, values, r);
 }
 
 // The block onto the planes; only cells of rows that lie in them are decoded.
@@ -198,11 +157,11 @@ fn put_block(
     let n = block_rows(cu.chroma_idc, l, b);
     let mut values: [u64; 1024] = [0; 1024];
     cell_colors(c, cu, n * cu.size, &mut values);
-    onto::put_plane(luma, &values, l);
+    put_plane(luma, &values, l);
     put_chroma(cu.chroma_idc, cb, cr, &values, b, r);
 }
 
-// A refusal's number, or 0 and the block on the planes; ys and cs are their strides.
+// The block on the planes, or a refusal that leaves them; ys and cs are their strides.
 pub fn reconstruct(
     luma: &mut [u16],
     cb: &mut [u16],
@@ -212,16 +171,13 @@ pub fn reconstruct(
     c: PaletteConfig,
     g: SourceBlock,
     cu: PaletteCu,
-) -> u8
-    ensures { (result, luma.new, cb.new, cr.new) ≡ recon_of luma.old cb.old cr.old ys cs c g cu }
+) -> Result<(), Refusal>
+    ensures { (code_of result, luma.new, cb.new, cr.new) ≡ recon_of luma.old cb.old cr.old ys cs c g cu }
 {
-    let k = targets::target_refusal(c, g, ys, cs, luma.len(), cb.len(), cr.len());
-    if k != 0 {
-        return k;
+    check_targets(c, g, ys, cs, luma.len(), cb.len(), cr.len())?;
+    if !block_in(c, g, cu) {
+        return Err(Refusal::Block);
     }
-    if sse::block_in(c, g, cu) {
-        put_block(luma, cb, cr, ys, cs, c, g, cu);
-        return 0;
-    }
-    7
+    put_block(luma, cb, cr, ys, cs, c, g, cu);
+    Ok(())
 }

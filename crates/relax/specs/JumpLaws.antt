@@ -1,16 +1,16 @@
 -- One jump of the loop over the early stops, and that the jumps visit the planner's stops.
-use Rattle.std.specs.Prelude.{◌≡◌, Bool, false, List, ltb, Float, get_or}
+use Rattle.std.specs.Prelude.{◌≡◌, Bool, false, List, Float, get_or}
 use Rattle.std.proofs.Math.Path.{refl, sym}
-use Rattle.std.proofs.Common.{ap, ◌∙◌}
+use Rattle.std.proofs.Common.{◌∙◌}
 use Rattle.std.proofs.Math.Bool.{true}
 use Rattle.std.proofs.Math.Logic.{⊎_elim}
-use Prim.Native.Nat.{ℕ, zero, suc, ◌+◌, ◌*◌, ◌-◌, ◌≤◌, ◌<◌}
+use Prim.Native.Nat.{ℕ, zero, suc, ◌+◌, ◌-◌, ◌≤◌, ◌<◌}
 use native.Mathlib.Omega.{arith}
 use Rattle.std.proofs.Math.Dec.{eqb}
 use borrow.Author.Tests.{lt-ltb, le-ltb, eqb-true, eqb-false}
-use Rattle.base.specs.Pick.{pick, either, lt_or_le}
+use Rattle.base.specs.Pick.{either, lt_or_le}
 use Rattle.h265.specs.Scan.{above_at}
-use Rattle.paths.specs.Cells.{copies, index_length, above_length, stops_at}
+use Rattle.paths.specs.Cells.{index_length, above_length, stops_at}
 use Rattle.paths.specs.CellLaws.{index_le, index-some, above_zero, above-some, stops-next}
 use Rattle.paths.specs.Stretch.{next_stretch, next_ge, next-end, next-none, next-stops, next_none_after, next_stops_after, stopped-end, stopped-one, stopped-skip}
 use Rattle.paths.specs.Plan.{Table, slot, relaxed, stopped}

@@ -1,5 +1,5 @@
 -- The runs from one place by tables: il, how far an index goes on; al, how many cells can be copied; ss, where the next stretch begins.
-use Rattle.std.specs.Prelude.{◌≡◌, Bool, true, false, List, ℕ, zero, suc, ◌+◌, ◌-◌, ◌≤◌, ◌<◌, eqb, ltb, Float, get_or}
+use Rattle.std.specs.Prelude.{Bool, false, List, ℕ, zero, suc, ◌+◌, ◌-◌, ◌≤◌, eqb, ltb, Float, get_or}
 use Rattle.std.specs.Float.{binary32}
 use Rattle.std.specs.Float.Ieee.{add}
 use Rattle.base.specs.Pick.{pick}

@@ -1,7 +1,9 @@
 -- The replay onto an array, as the loops go, and that the array's front is the definition's list.
-use Rattle.std.specs.Prelude.{◌≡◌, refl, Bool, true, false, List, [], ◌∷◌, ◌++◌, ℕ, zero, suc, ◌+◌, ◌-◌, ◌≤◌, ◌<◌, ltb, eqb, length, get_or, take, drop, set, replicate}
-use Rattle.std.proofs.Common.{ap, sym, ◌∙◌, append_assoc, append-nil, add-zero, add-one, arith, length-set, length-take-le, take-suc-set, lt-ltb, le-ltb, ltb-true, ltb-false, eq-eqb, ne_eqb}
+use Rattle.std.specs.Prelude.{◌≡◌, refl, Bool, true, false, List, [], ◌∷◌, ◌++◌, ℕ, zero, suc, ◌+◌, ◌≤◌, ◌<◌, ltb, eqb, length, take, drop, set, replicate}
+use Rattle.std.proofs.Common.{ap, sym, ◌∙◌, append_assoc, append-nil, add-zero, add-one, arith, length-set, length-take-le, take-suc-set}
 use Rattle.std.proofs.lemmas.Bool.{eqb-false}
+use Rattle.std.proofs.Common.{take-append-drop, drop-drop}
+use borrow.Rule.Slice.PartMut.{put_mid}
 use Rattle.base.specs.Pick.{pick, either}
 use Rattle.base.specs.Codes.{All}
 use Rattle.syntax.specs.Runs.{Run, Keeps}
@@ -129,6 +131,13 @@ fill_past : (v k i d : ℕ) (xs : List ℕ) → i + k ≤ d → drop d (fill_int
 unfolding fill_into
 fill_past v zero i d xs h = refl
 fill_past v (suc k) i d xs h = fill_past v k (i + 1) d (set xs i v) (omega arith) ∙ drop-set d i v xs (omega arith)
+
+-- a fill of the places from i on is the definition's
+pub fill_is : (v k i : ℕ) (xs : List ℕ) → i + k ≤ length xs → put_mid i k xs (replicate k v) ≡ fill_into v k i xs
+fill_is v k i xs h =
+    sym (append_assoc (take i xs) (replicate k v) _)
+    ∙ ap (λ (r : List ℕ). (take i xs ++ replicate k v) ++ r) (drop-drop k i xs)
+    ∙ rw (← fill_front v k i xs h, ← fill_past v k i (i + k) xs (omega arith)) (take-append-drop (i + k) (fill_into v k i xs))
 
 pub lay_past : (size : ℕ) (prev : Bool) (scan k : ℕ) (above : Bool) (sent d : ℕ) (xs : List ℕ) → scan + k ≤ d → drop d (lay_into size prev scan k above sent xs) ≡ drop d xs
 unfolding lay_into

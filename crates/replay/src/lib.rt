@@ -16,11 +16,8 @@ fn copy_cells(cells: &mut [u8; 1024], size: usize, from: usize, to: usize)
     requires { (1 ≤ size) × (from ≤ to) × (to ≤ 1024) }
     ensures { cells.new ≡ copy_into size (to - from) from cells.old }
 {
-    let mut i = from;
-    while i < to {
-        let v = above_of(cells, size, i);
-        cells[i] = v;
-        i += 1;
+    for i in from..to {
+        cells[i] = above_of(cells, size, i);
     }
 }
 
@@ -29,29 +26,24 @@ fn fill_cells(cells: &mut [u8; 1024], v: u8, from: usize, to: usize)
     requires { (from ≤ to) × (to ≤ 1024) }
     ensures { cells.new ≡ fill_into v (to - from) from cells.old }
 {
-    let mut i = from;
-    while i < to {
-        cells[i] = v;
-        i += 1;
-    }
+    cells[from..to].fill(v);
 }
 
 // The index that is sent as `sent`: at and above its reference one more.
+#[tactic(auto, unfolding(crate::specs::Into::index_in))]
 fn index_of(cells: &[u8; 1024], size: usize, prev: bool, scan: usize, sent: u8) -> u8
     requires { (1 ≤ size) × (scan < 1024) × (sent < 255) }
     ensures { result ≡ index_in size prev cells.now scan sent }
 {
-    if scan == 0 {
-        return sent;
+    if scan == 0 || sent < reference_of(cells, size, prev, scan) {
+        sent
+    } else {
+        sent + 1
     }
-    let f = reference_of(cells, size, prev, scan);
-    if sent < f {
-        return sent;
-    }
-    sent + 1
 }
 
 // The cells of one run.
+#[tactic(auto, unfolding(crate::specs::Into::lay_into))]
 fn lay_run(
     cells: &mut [u8; 1024],
     size: usize,
@@ -66,37 +58,25 @@ fn lay_run(
 {
     if above {
         copy_cells(cells, size, scan, to);
-        return;
+    } else {
+        let v = index_of(cells, size, prev, scan, sent);
+        fill_cells(cells, v, scan, to);
     }
-    let v = index_of(cells, size, prev, scan, sent);
-    fill_cells(cells, v, scan, to);
 }
 
-// A number below 256 as a byte.
-fn narrow(v: u32) -> u8
-    requires { v < 256 }
-    ensures { result ≡ v }
-{
-    v as u8
-}
-
-// The cells of the first `count` runs, and 0 past them.
-pub fn replay_runs(size: usize, n: usize, runs: [PaletteRun; 1024], count: usize) -> [u8; 1024]
-    requires { (1 ≤ size) × (n ≤ 1024) × (count ≤ 1024) × R.Keeps size n 0 false (take count runs) × All Short (take count runs) }
-    ensures { result ≡ padded 1024 0 (P.replay size false [] (take count runs)) }
+// The cells of a run list, and 0 past them.
+pub fn replay_runs(size: usize, n: usize, runs: &[PaletteRun]) -> [u8; 1024]
+    requires { (1 ≤ size) × (n ≤ 1024) × R.Keeps size n 0 false runs.now × All Short runs.now }
+    ensures { result ≡ padded 1024 0 (P.replay size false [] runs.now) }
 {
     let mut cells = [0u8; 1024];
-    let mut i: usize = 0;
-    let mut scan: usize = 0;
+    let mut scan = 0;
     let mut prev = false;
-    while i < count {
-        let r = runs[i];
+    for r in runs {
         let to = end_of(scan, r.more);
-        let s = narrow(r.sent);
-        lay_run(&mut cells, size, prev, scan, to, r.above, s);
+        lay_run(&mut cells, size, prev, scan, to, r.above, r.sent as u8);
         scan = to;
         prev = r.above;
-        i += 1;
     }
     cells
 }

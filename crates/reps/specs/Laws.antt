@@ -1,5 +1,5 @@
 -- The laws of representatives: at most the limit, apart from one another, and near to each colour that is dropped.
-use Rattle.std.specs.Prelude.{Bool, true, false, ◌≡◌, refl, ltb, leb, get_or}
+use Rattle.std.specs.Prelude.{Bool, true, false, ◌≡◌, refl, leb, get_or}
 use mathlib.Core.List.{List, [], ◌∷◌, ◌++◌}
 use Rattle.std.proofs.Math.Logic.{⊎_elim}
 use Rattle.std.proofs.Math.Path.{sym}
@@ -14,7 +14,10 @@ use Rattle.base.specs.Alls.{all_append}
 use Rattle.base.specs.Codes.{All}
 use Rattle.base.specs.Pick.{either, true_false, lt_or_le}
 use Rattle.quant.specs.Quant.{gap, y_of, u_of, v_of, dist}
-use Rattle.reps.specs.Reps.{within, hit_of, joined, reps, Near}
+use Rattle.std.specs.Prelude.{cond}
+use Rattle.std.specs.List.{position, position_or_len}
+use Rattle.std.proofs.lemmas.List.Recursion.{is_position_or_len}
+use Rattle.reps.specs.Reps.{place_in, within, hit_of, joined, reps, Near}
 
 -- ---- component by component
 
@@ -76,6 +79,21 @@ module _ (tol e : ℕ) where
   hit-first [] j l = absurd (omega arith)
   hit-first (x ∷ xs) zero l = either (within tol e x) (λ h. absurd (omega (arith, hit-here x xs h))) (λ h. h)
   hit-first (x ∷ xs) (suc j) l = either (within tol e x) (λ h. absurd (omega (arith, hit-here x xs h))) (λ h. hit-first xs j (omega (arith, hit-on x xs h)))
+
+hit-none : (tol e : ℕ) → hit_of tol e [] ≡ 0
+unfolding hit_of
+hit-none tol e = refl
+
+hit-cons : (tol e x : ℕ) (xs : List ℕ) → hit_of tol e (x ∷ xs) ≡ cond (within tol e x) 0 (1 + hit_of tol e xs)
+hit-cons tol e x xs = either (within tol e x) (λ h. rw (hit-here tol e x xs h, h)) (λ h. rw (hit-on tol e x xs h, h) (omega arith))
+
+-- it is where a search for one within tolerance ends
+pub hit_place : (tol e : ℕ) (xs : List ℕ) → place_in xs (position (λ x. within tol e x) xs) ≡ hit_of tol e xs
+hit_place tol e xs =
+    let p : ℕ → Bool = λ x. within tol e x in
+    let q : hit_of tol e xs ≡ position_or_len p xs = is_position_or_len (hit_of tol e) p (hit-none tol e) (hit-cons tol e) xs in
+    rw (← q)
+    (⊎_elim (λ (l : hit_of tol e xs < length xs). rw (lt-ltb _ _ l)) (λ (l : length xs ≤ hit_of tol e xs). rw (le-ltb _ _ l) (omega (arith, hit_le tol e xs))) (lt_or_le (hit_of tol e xs) (length xs)))
 
 -- ---- one more colour
 

@@ -1,6 +1,6 @@
 -- A window about a colour: what is within tolerance falls into it.
 use Rattle.std.specs.Prelude.{Bool, true, false, ◌&&◌, ◌||◌, List, ◌≡◌, refl, ℕ, ◌+◌, ◌-◌, ◌*◌, ◌/◌, ◌%◌, ◌≤◌, ◌<◌, max, ltb, length, get_or, take}
-use Rattle.std.proofs.Common.{⊎_elim, sym, ◌∙◌, arith, lt-ltb, leb-true, get_or-take, length-take-le}
+use Rattle.std.proofs.Common.{ap, take_all, ⊎_elim, sym, ◌∙◌, arith, lt-ltb, leb-true, get_or-take, length-take-le}
 use Rattle.base.specs.Pick.{either, true_false, lt_or_le}
 use Rattle.quant.specs.Quant.{gap, dist}
 use Rattle.reps.specs.Reps.{within, hit_of}
@@ -79,3 +79,7 @@ no_hit tol e l n k h =
     absurd (true_false (sym (hit-found tol e (take n l) q) ∙ rw (get_or-take n l (hit_of tol e (take n l)) 0 m) (h (hit_of tol e (take n l)) m))))
     (λ (q : length (take n l) ≤ hit_of tol e (take n l)). omega (arith, hit_le tol e (take n l)))
     (lt_or_le (hit_of tol e (take n l)) (length (take n l)))
+
+-- the same of a whole list
+pub no_hit_in : (tol e : ℕ) (l : List ℕ) → ((j : ℕ) → j < length l → within tol e (get_or l j 0) ≡ false) → length l ≡ hit_of tol e l
+no_hit_in tol e l h = no_hit tol e l (length l) (omega arith) h ∙ ap (hit_of tol e) (take_all (length l) l (omega arith))

@@ -1,5 +1,5 @@
 -- Document 01: a colour within tolerance of an earlier representative in every component is dropped; at most `limit` stay. Definitions only.
-use Rattle.std.specs.Prelude.{Bool, true, List, [], ◌∷◌, ◌++◌, ◌≡◌, ℕ, zero, suc, ◌≤◌, ◌<◌, ltb, leb, get_or, length, take, drop}
+use Rattle.std.specs.Prelude.{Option, None, Some, Bool, true, List, [], ◌∷◌, ◌++◌, ◌≡◌, ℕ, zero, suc, ◌≤◌, ◌<◌, ltb, leb, get_or, length, take, drop}
 use Rattle.base.specs.Pick.{pick}
 use Rattle.base.specs.Lists.{padded}
 use Rattle.quant.specs.Quant.{dist}
@@ -13,6 +13,11 @@ within tol a b = leb (dist a b) tol
 unfoldable pub hit_of : ℕ → ℕ → List ℕ → ℕ
 hit_of tol e [] = 0
 hit_of tol e (x ∷ xs) = pick (within tol e x) 0 (suc (hit_of tol e xs))
+
+-- a place found, or the list's length where none is
+abbrev pub place_in : List ℕ → Option ℕ → ℕ
+place_in xs None = length xs
+place_in xs (Some r) = r
 
 -- one more colour c: dropped where one of the representatives rs is within tolerance, or where there is no room
 unfoldable pub joined : ℕ → ℕ → List ℕ → ℕ → List ℕ

@@ -1,12 +1,14 @@
 -- The turns of the loops over representatives, over the arrays that the code holds.
-use Rattle.std.specs.Prelude.{Bool, true, false, List, [], ◌∷◌, ◌++◌, ◌≡◌, refl, ℕ, suc, ◌+◌, ◌≤◌, ◌<◌, length, get_or, set, take, drop, replicate}
+use Rattle.std.specs.Prelude.{Option, None, Some, IfSome, true, false, List, ◌≡◌, refl, ℕ, suc, ◌+◌, ◌≤◌, ◌<◌, length, get_or, set, take, drop, replicate}
 use Rattle.std.proofs.Common.{sym, ◌∙◌, ap, arith, add-one, length-set, drop-set-lt, length-take-le}
 use Rattle.std.proofs.Math.Seq.{slice, slice_empty, slice-cons}
 use Rattle.base.specs.Counted.{push}
 use Rattle.base.specs.Lists.{padded, padded-is, drop_more}
 use Rattle.reps.specs.declared.Reps.{Reps}
-use Rattle.reps.specs.Reps.{within, hit_of, joined, reps, listed, Joined}
-use Rattle.reps.specs.Laws.{hit-here, hit-on, joined_full, joined-near, joined_new, reps-next, reps_le}
+use Rattle.std.specs.Option.{is_some}
+use Rattle.base.specs.Pick.{true_false}
+use Rattle.reps.specs.Reps.{place_in, within, hit_of, joined, reps, listed, Joined}
+use Rattle.reps.specs.Laws.{hit-here, hit-on, joined_full, joined-near, joined_new, reps-next}
 
 -- ---- the search
 
@@ -21,10 +23,19 @@ pub hit-end : (tol e : ℕ) (l : List ℕ) (m : ℕ) → hit_of tol e (slice m m
 unfolding hit_of
 hit-end tol e l m = rw (slice_empty m l)
 
+-- where one is found, the place is in the list; where none is, it is the list's end
+pub found-below : (xs : List ℕ) (r : Option ℕ) (h : ℕ) → place_in xs r ≡ h → IfSome r (λ i. i < length xs) → true ≡ is_some r → h < length xs
+found-below xs None h e b s = absurd (true_false s)
+found-below xs (Some i) h e b s = omega (arith, e, b)
+
+pub found-none : (xs : List ℕ) (r : Option ℕ) (h : ℕ) → place_in xs r ≡ h → false ≡ is_some r → length xs ≤ h
+found-none xs None h e s = omega (arith, e)
+found-none xs (Some i) h e s = absurd (true_false (sym s))
+
 -- ---- one more colour
 
 module _ (tol limit c n : ℕ) (l : List ℕ) (k : n ≤ limit) (s : limit ≤ 64) (w : length l ≡ 64) where
-  len : length (take n l) ≡ n
+  pub len : length (take n l) ≡ n
   len = length-take-le n l (omega arith)
 
   pub join_full : n ≡ limit → Joined tol limit c n n l l

@@ -1,7 +1,7 @@
 // The samples of a block from lent planes, as packed colours, row by row from the left.
 #![tactic(auto)]
 
-ghost use Rattle.std.specs.Prelude.{◌≡◌, Bool, true, false, ℕ, ◌+◌, ◌-◌, ◌*◌, ◌/◌, ◌%◌, ◌<◌, ◌≤◌, min, length};
+ghost use Rattle.std.specs.Prelude.{◌≡◌, Bool, true, false, ℕ, ◌+◌, ◌-◌, ◌*◌, ◌/◌, ◌%◌, ◌<◌, ◌≤◌, min, length, slice_range};
 ghost use Rattle.base.specs.Cells.{laid};
 ghost use Rattle.model.specs.Domain.{sub_w, sub_h, source_in, planes_in};
 ghost use Rattle.samples.specs.Samples.{cell_at};
@@ -9,243 +9,115 @@ ghost use Rattle.samples.specs.Laws.{in_row, grey_cell, color_cell, luma_cell, h
 
 use model::SourceBlock;
 
-// The lesser of two.
-fn least(a: usize, b: usize) -> usize
-    ensures { result ≡ min a b }
-{
-    if a < b {
-        return a;
-    }
-    b
-}
-
 // Division by 1 or 2.
 fn down(x: usize, by: usize) -> usize
     requires { (1 ≤ by) × (by ≤ 2) }
     ensures { result ≡ x / by }
 {
-    if by == 2 {
-        return x / 2;
-    }
-    x
+    if by == 2 { x / 2 } else { x }
 }
 
-// A sample as a wider number.
-fn wide(x: u16) -> u64
-    ensures { result ≡ x }
+// Column x, held to the row.
+fn in_row(row: &[u16], x: usize) -> u16
+    requires { 1 ≤ length row.now }
+    ensures { result ≡ in_row row.now 0 (length row.now) x }
 {
-    x as u64
+    row[x.min(row.len() - 1)]
 }
 
-// Column x, held to the row of w samples that starts at base.
-fn in_row(plane: &[u16], base: usize, w: usize, x: usize) -> u16
-    requires { (1 ≤ w) × (base + w ≤ length plane.now) }
-    ensures { result ≡ in_row plane.now base w x }
+// One row without chroma.
+fn row_grey(luma: &[u16], x0: usize, cells: &mut [u64])
+    requires { (1 ≤ length luma.now) × (x0 ≤ 65535) × (length cells.old ≤ 32) }
+    ensures { cells.new ≡ laid (grey_cell luma.now 0 (length luma.now) x0 0) cells.old 0 (length cells.old) }
 {
-    plane[base + least(x, w - 1)]
-}
-
-// One row without chroma, laid from place a on.
-fn row_grey(
-    luma: &[u16],
-    base: usize,
-    w: usize,
-    x0: usize,
-    size: usize,
-    out: &mut [u64; 1024],
-    a: usize,
-)
-    requires le_w { (1 ≤ w) × (base + w ≤ length luma.now) }
-    requires x0_bound { (x0 ≤ 65535) × (size ≤ 32) × (a + size ≤ 1024) }
-    ensures { out.new ≡ laid (grey_cell luma.now base w x0 a) out.old a size }
-{
-    let mut c: usize = 0;
-    while c < size {
-        let y = wide(in_row(luma, base, w, x0 + c));
-        out[a + c] = y;
-        c += 1;
+    for (c, cell) in cells.iter_mut().enumerate() {
+        *cell = u64::from(in_row(luma, x0 + c));
     }
 }
 
 // One row with chroma, each column held to the planes.
-fn row_held(
-    luma: &[u16],
-    cb: &[u16],
-    cr: &[u16],
-    base: usize,
-    w: usize,
-    cbase: usize,
-    cw: usize,
-    x0: usize,
-    by: usize,
-    size: usize,
-    out: &mut [u64; 1024],
-    a: usize,
-)
-    requires le_w { (1 ≤ w) × (base + w ≤ length luma.now) × (1 ≤ cw) × (cbase + cw ≤ length cb.now) × (cbase + cw ≤ length cr.now) }
-    requires x0_bound { (x0 ≤ 65535) × (1 ≤ by) × (by ≤ 2) × (size ≤ 32) × (a + size ≤ 1024) }
-    ensures { out.new ≡ laid (color_cell luma.now cb.now cr.now base w cbase cw x0 by a) out.old a size }
+fn row_held(luma: &[u16], cb: &[u16], cr: &[u16], x0: usize, by: usize, cells: &mut [u64])
+    requires rows { (1 ≤ length luma.now) × (1 ≤ length cb.now) × (length cr.now ≡ length cb.now) }
+    requires bounds { (x0 ≤ 65535) × (1 ≤ by) × (by ≤ 2) × (length cells.old ≤ 32) }
+    ensures { cells.new ≡ laid (color_cell luma.now cb.now cr.now 0 (length luma.now) 0 (length cb.now) x0 by 0) cells.old 0 (length cells.old) }
 {
-    let mut c: usize = 0;
-    while c < size {
+    for (c, cell) in cells.iter_mut().enumerate() {
         let x = x0 + c;
-        let y = in_row(luma, base, w, x);
         let d = down(x, by);
-        let u = in_row(cb, cbase, cw, d);
-        let v = in_row(cr, cbase, cw, d);
-        let p = entries::pack(y, u, v);
-        out[a + c] = p;
-        c += 1;
+        *cell = entries::pack(in_row(luma, x), in_row(cb, d), in_row(cr, d));
     }
 }
 
 // One row with as many columns of chroma, within the planes.
-fn row_whole(
-    luma: &[u16],
-    cb: &[u16],
-    cr: &[u16],
-    base: usize,
-    w: usize,
-    cbase: usize,
-    cw: usize,
-    x0: usize,
-    size: usize,
-    out: &mut [u64; 1024],
-    a: usize,
-)
-    requires w_in_bounds { (base + w ≤ length luma.now) × (cbase + cw ≤ length cb.now) × (cbase + cw ≤ length cr.now) }
-    requires size_bound { (x0 + size ≤ w) × (x0 + size ≤ cw) × (size ≤ 32) × (a + size ≤ 1024) }
-    ensures { out.new ≡ laid (color_cell luma.now cb.now cr.now base w cbase cw x0 1 a) out.old a size }
+fn row_whole(luma: &[u16], cb: &[u16], cr: &[u16], x0: usize, cells: &mut [u64])
+    requires { (x0 + length cells.old ≤ length luma.now) × (x0 + length cells.old ≤ length cb.now) × (length cr.now ≡ length cb.now) × (x0 ≤ 65535) × (length cells.old ≤ 32) }
+    ensures { cells.new ≡ laid (color_cell luma.now cb.now cr.now 0 (length luma.now) 0 (length cb.now) x0 1 0) cells.old 0 (length cells.old) }
 {
-    let from = base + x0;
-    let cfrom = cbase + x0;
-    let mut c: usize = 0;
-    while c < size {
-        let p = entries::pack(luma[from + c], cb[cfrom + c], cr[cfrom + c]);
-        out[a + c] = p;
-        c += 1;
+    for (c, cell) in cells.iter_mut().enumerate() {
+        *cell = entries::pack(luma[x0 + c], cb[x0 + c], cr[x0 + c]);
     }
 }
 
 // One row with half as many columns of chroma, within the planes, from an even column on: two cells at a turn.
-fn row_pairs(
-    luma: &[u16],
-    cb: &[u16],
-    cr: &[u16],
-    base: usize,
-    w: usize,
-    cbase: usize,
-    cw: usize,
-    x0: usize,
-    size: usize,
-    out: &mut [u64; 1024],
-    a: usize,
-)
-    requires w_in_bounds { (base + w ≤ length luma.now) × (cbase + cw ≤ length cb.now) × (cbase + cw ≤ length cr.now) }
-    requires size_bound { (x0 + size ≤ w) × (x0 + size ≤ 2 * cw) × (x0 % 2 ≡ 0) × (size % 2 ≡ 0) × (size ≤ 32) × (a + size ≤ 1024) }
-    ensures { out.new ≡ laid (color_cell luma.now cb.now cr.now base w cbase cw x0 2 a) out.old a size }
+fn row_pairs(luma: &[u16], cb: &[u16], cr: &[u16], x0: usize, cells: &mut [u64])
+    requires bounds { (x0 + length cells.old ≤ length luma.now) × (x0 + length cells.old ≤ 2 * length cb.now) × (length cr.now ≡ length cb.now) × (x0 ≤ 65535) × (length cells.old ≤ 32) }
+    requires even { (x0 % 2 ≡ 0) × (length cells.old % 2 ≡ 0) }
+    ensures { cells.new ≡ laid (color_cell luma.now cb.now cr.now 0 (length luma.now) 0 (length cb.now) x0 2 0) cells.old 0 (length cells.old) }
 {
-    let from = base + x0;
-    let cfrom = cbase + x0 / 2;
-    let half = size / 2;
-    let mut c: usize = 0;
-    while c < half {
-        let u = cb[cfrom + c];
-        let v = cr[cfrom + c];
-        let p = entries::pack(luma[from + 2 * c], u, v);
-        let q = entries::pack(luma[from + 2 * c + 1], u, v);
-        out[a + 2 * c] = p;
-        out[a + 2 * c + 1] = q;
-        c += 1;
+    let half = x0 / 2;
+    for c in 0..cells.len() / 2 {
+        let u = cb[half + c];
+        let v = cr[half + c];
+        cells[2 * c] = entries::pack(luma[x0 + 2 * c], u, v);
+        cells[2 * c + 1] = entries::pack(luma[x0 + 2 * c + 1], u, v);
     }
 }
 
-// Yes only where a row with as many columns of chroma lies within the planes.
-fn whole_in(x0: usize, by: usize, size: usize, w: usize, cw: usize) -> bool
-    requires { (x0 ≤ 65535) × (size ≤ 32) }
-    ensures { result ≡ true → (by ≡ 1) × (x0 + size ≤ w) × (x0 + size ≤ cw) }
+// One row with chroma, a sample of it every `by` columns.
+fn row_color(luma: &[u16], cb: &[u16], cr: &[u16], x0: usize, by: usize, cells: &mut [u64])
+    requires rows { (1 ≤ length luma.now) × (1 ≤ length cb.now) × (length cr.now ≡ length cb.now) }
+    requires bounds { (x0 ≤ 65535) × (1 ≤ by) × (by ≤ 2) × (length cells.old ≤ 32) }
+    ensures { cells.new ≡ laid (color_cell luma.now cb.now cr.now 0 (length luma.now) 0 (length cb.now) x0 by 0) cells.old 0 (length cells.old) }
 {
-    if by == 1 {
-        if x0 + size <= w {
-            return x0 + size <= cw;
-        }
+    let end = x0 + cells.len();
+    if by == 1 && end <= luma.len() && end <= cb.len() {
+        row_whole(luma, cb, cr, x0, cells);
+    } else if by == 2 && x0 % 2 == 0 && end % 2 == 0 && end <= luma.len() && end / 2 <= cb.len() {
+        row_pairs(luma, cb, cr, x0, cells);
+    } else {
+        row_held(luma, cb, cr, x0, by, cells);
     }
-    false
-}
-
-// Yes only where a row with half as many columns of chroma lies within the planes, from an even column on.
-fn pairs_in(x0: usize, by: usize, size: usize, w: usize, cw: usize) -> bool
-    requires { (x0 ≤ 65535) × (size ≤ 32) }
-    ensures { result ≡ true → (by ≡ 2) × (x0 % 2 ≡ 0) × (size % 2 ≡ 0) × (x0 + size ≤ w) × (x0 + size ≤ 2 * cw) }
-{
-    if by == 2 {
-        if x0 % 2 == 0 {
-            if size % 2 == 0 {
-                if x0 + size <= w {
-                    return (x0 + size) / 2 <= cw;
-                }
-            }
-        }
-    }
-    false
-}
-
-// One row with chroma, laid from place a on.
-fn row_color(
-    luma: &[u16],
-    cb: &[u16],
-    cr: &[u16],
-    base: usize,
-    w: usize,
-    cbase: usize,
-    cw: usize,
-    x0: usize,
-    by: usize,
-    size: usize,
-    out: &mut [u64; 1024],
-    a: usize,
-)
-    requires le_w { (1 ≤ w) × (base + w ≤ length luma.now) × (1 ≤ cw) × (cbase + cw ≤ length cb.now) × (cbase + cw ≤ length cr.now) }
-    requires x0_bound { (x0 ≤ 65535) × (1 ≤ by) × (by ≤ 2) × (size ≤ 32) × (a + size ≤ 1024) }
-    ensures { out.new ≡ laid (color_cell luma.now cb.now cr.now base w cbase cw x0 by a) out.old a size }
-{
-    if whole_in(x0, by, size, w, cw) {
-        row_whole(luma, cb, cr, base, w, cbase, cw, x0, size, out, a);
-        return;
-    }
-    if pairs_in(x0, by, size, w, cw) {
-        row_pairs(luma, cb, cr, base, w, cbase, cw, x0, size, out, a);
-        return;
-    }
-    row_held(luma, cb, cr, base, w, cbase, cw, x0, by, size, out, a);
 }
 
 // Columns of luma to one of chroma.
+#[tactic(auto, unfolding(model::specs::Domain::sub_w))]
 pub fn sub_w(format: u8) -> usize
     ensures { (result ≡ sub_w format) × (1 ≤ result) × (result ≤ 2) }
 {
-    if (format == 1) | (format == 2) {
-        return 2;
+    match format {
+        1 | 2 => 2,
+        _ => 1,
     }
-    1
 }
 
 // Rows of luma to one of chroma.
+#[tactic(auto, unfolding(model::specs::Domain::sub_h))]
 pub fn sub_h(format: u8) -> usize
     ensures { (result ≡ sub_h format) × (1 ≤ result) × (result ≤ 2) }
 {
-    if format == 1 {
-        return 2;
+    match format {
+        1 => 2,
+        _ => 1,
     }
-    1
 }
 
-// Where row y of a plane of w × h starts, the row held to the plane.
-fn row_start(y: usize, w: usize, h: usize, len: usize) -> usize
-    requires { (1 ≤ h) × (w * h ≤ len) }
-    ensures { (result ≡ min y (h - 1) * w) × (result + w ≤ len) }
+// Row y of a plane of w × h, held to the plane.
+fn row(plane: &[u16], y: usize, w: usize, h: usize) -> &[u16]
+    requires { (1 ≤ h) × (w * h ≤ length plane.now) }
+    ensures { (result.now ≡ slice_range plane.now (min y (h - 1) * w) (min y (h - 1) * w + w)) × (length result.now ≡ w) }
 {
-    least(y, h - 1) * w
+    let from = y.min(h - 1) * w;
+    &plane[from..from + w]
 }
 
 // The block without chroma.
@@ -254,14 +126,10 @@ fn fetch_grey(luma: &[u16], g: SourceBlock, out: &mut [u64; 1024])
     requires yh_in_bounds { g.yw * g.yh ≤ length luma.now }
     ensures { out.new ≡ laid (luma_cell luma.now g) out.old 0 (g.size * g.size) }
 {
-    let size = g.size;
-    let mut a: usize = 0;
-    let mut y: usize = 0;
-    while y < size {
-        let base = row_start(g.y0 + y, g.yw, g.yh, luma.len());
-        row_grey(luma, base, g.yw, g.x0, size, out, a);
-        a += size;
-        y += 1;
+    for y in 0..g.size {
+        let from = y * g.size;
+        let cells = &mut out[from..from + g.size];
+        row_grey(row(luma, g.y0 + y, g.yw, g.yh), g.x0, cells);
     }
 }
 
@@ -278,20 +146,16 @@ fn fetch_color(
     requires le_format { (1 ≤ format) × (1 ≤ g.cw) × (1 ≤ g.chh) × (g.cw * g.chh ≤ length cb.now) × (g.cw * g.chh ≤ length cr.now) }
     ensures { out.new ≡ laid (cell_at luma.now cb.now cr.now format g) out.old 0 (g.size * g.size) }
 {
-    let size = g.size;
     let across = sub_w(format);
     let along = sub_h(format);
-    let both = least(cb.len(), cr.len());
-    let mut a: usize = 0;
-    let mut y: usize = 0;
-    while y < size {
-        let base = row_start(g.y0 + y, g.yw, g.yh, luma.len());
-        let cbase = row_start(down(g.y0 + y, along), g.cw, g.chh, both);
-        row_color(
-            luma, cb, cr, base, g.yw, cbase, g.cw, g.x0, across, size, out, a,
-        );
-        a += size;
-        y += 1;
+    for y in 0..g.size {
+        let d = down(g.y0 + y, along);
+        let y_row = row(luma, g.y0 + y, g.yw, g.yh);
+        let cb_row = row(cb, d, g.cw, g.chh);
+        let cr_row = row(cr, d, g.cw, g.chh);
+        let from = y * g.size;
+        let cells = &mut out[from..from + g.size];
+        row_color(y_row, cb_row, cr_row, g.x0, across, cells);
     }
 }
 
@@ -316,7 +180,7 @@ pub fn fetch(
 {
     if has_chroma(format, g.cw, g.chh) {
         fetch_color(luma, cb, cr, format, g, out);
-        return;
+    } else {
+        fetch_grey(luma, g, out);
     }
-    fetch_grey(luma, g, out);
 }

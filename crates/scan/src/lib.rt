@@ -5,7 +5,7 @@ ghost use Rattle.std.specs.Prelude.{◌≡◌, ◌≤◌, ◌<◌};
 ghost use Rattle.h265.specs.Scan as S;
 
 // A cell of a block.
-#[derive(Clone, Copy)]
+#[derive(Clone, Copy, PartialEq, Eq)]
 pub struct Pos {
     pub col: usize,
     pub row: usize,
@@ -16,10 +16,11 @@ fn along(x: usize, row: usize, size: usize) -> usize
     requires { x < size }
     ensures { (result ≡ S.along size row x) × (result < size) }
 {
-    if row % 2 == 0 {
-        return x;
+    if row.is_multiple_of(2) {
+        x
+    } else {
+        size - 1 - x
     }
-    size - 1 - x
 }
 
 // The cell at scan place i.

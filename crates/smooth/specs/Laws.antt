@@ -1,5 +1,5 @@
 -- One turn of each loop of smoothing.
-use Rattle.std.specs.Prelude.{Bool, not, ◌&&◌, List, [], ◌∷◌, ◌≡◌, eqb, leb, Float, get_or, set}
+use Rattle.std.specs.Prelude.{Bool, ◌&&◌, List, ◌≡◌, eqb, Float, get_or, set}
 use Rattle.std.proofs.Math.Bool.{true, false}
 use Rattle.std.proofs.Common.{⊎_elim, ap, sym, ◌∙◌, arith}
 use Rattle.std.proofs.Math.Path.{refl}
@@ -10,7 +10,6 @@ use borrow.Author.Tests.{eq-eqb, ne_eqb, le-leb, lt-leb, le-ltb}
 use Rattle.std.specs.Float.{binary32}
 use Rattle.std.specs.Float.Ieee.{neg, add, of_bits}
 use Rattle.base.specs.Pick.{pick, lt_or_le}
-use Rattle.base.specs.Tests.{every, any, up_to}
 use Rattle.h265.specs.Scan.{place_above, above_at}
 use Rattle.model.specs.Domain.{sub_w, sub_h}
 use Rattle.figure.specs.Figure.{chroma_in}

@@ -1,2 +1,3 @@
 pub mod Smooth
 pub mod Laws
+pub mod Seen

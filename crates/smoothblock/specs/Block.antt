@@ -1,5 +1,5 @@
 -- Document 01's smoothing of a block: its index map and its error figure. Colours of the picture are given by column and row of the block.
-use Rattle.std.specs.Prelude.{false, List, ℕ, ◌*◌, Float, replicate}
+use Rattle.std.specs.Prelude.{Bool, Result, Ok, Err, false, List, ℕ, ◌*◌, Float, replicate}
 use Rattle.base.specs.Cells.{laid}
 use Rattle.base.specs.Pick.{pick}
 use Rattle.model.specs.declared.PaletteConfig.{PaletteConfig}
@@ -8,7 +8,9 @@ use Rattle.entries.specs.Entries.{palette_of}
 use Rattle.levels.specs.Levels.{scale_of}
 use Rattle.figure.specs.Figure.{scan_sample, block_figure}
 use Rattle.smooth.specs.Smooth.{Scene, scene, Map, smoothed}
-use Rattle.smoothblock.specs.declared.Smoothed.{Smoothed}
+use Rattle.refusal.specs.Refusal.{number_of}
+use Rattle.refusal.specs.declared.Refusal.{Refusal}
+use Rattle.smoothblock.specs.declared.SmoothedBlock.{SmoothedBlock}
 
 -- ---- the index map
 
@@ -48,6 +50,16 @@ with_map cu indices sse = record {
 -- with an index map: where a run was moved, the error figure is computed anew
 unfoldable pub mapped : PaletteConfig → PaletteCu → (ℕ → ℕ → ℕ) → Map → PaletteCu
 mapped c cu sample m = with_map cu m.indices (pick m.changed (block_figure (scale_of c) (with_map cu m.indices cu.sse) sample) cu.sse)
+
+-- a refusal's number and the block as it came, or 0, whether a run was moved, and the block made
+pub record Smoothed : Type 0 where
+  pub refusal : ℕ
+  pub changed : Bool
+  pub cu : PaletteCu
+
+abbrev pub as_smoothed : PaletteCu → Result SmoothedBlock Refusal → Smoothed
+as_smoothed cu (Ok s) = record { refusal = 0; changed = s.changed; cu = s.cu }
+as_smoothed cu (Err r) = record { refusal = number_of r; changed = false; cu = cu }
 
 -- the answer where nothing is refused
 unfoldable pub answer : PaletteConfig → Float → PaletteCu → (ℕ → ℕ → ℕ) → Smoothed

@@ -13,7 +13,7 @@ use Rattle.std.specs.Float.{inf, fin}
 use Rattle.std.proofs.Math.ListN.{get_or}
 use Rattle.std.proofs.Math.Seq.{set_out}
 use Rattle.base.specs.Cells.{laid}
-use Rattle.base.specs.Pick.{pick, either, true_false, lt_or_le, eq_or_ne}
+use Rattle.base.specs.Pick.{pick, either, lt_or_le, eq_or_ne}
 use Rattle.base.specs.Tests.{every, both, up_to, up_to-at}
 use Rattle.h265.specs.Scan.{place_above, above_at}
 use Rattle.h265.specs.ScanLaws.{above_before}

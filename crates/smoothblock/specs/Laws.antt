@@ -4,7 +4,6 @@ use mathlib.Core.List.{List}
 use Rattle.std.proofs.Math.Path.{ap}
 use Rattle.std.proofs.Common.{◌∙◌, arith}
 use Rattle.base.specs.Cells.{laid_same}
-use Rattle.base.specs.Pick.{pick}
 use Rattle.model.specs.declared.PaletteConfig.{PaletteConfig}
 use Rattle.model.specs.declared.PaletteCu.{PaletteCu}
 use Rattle.entries.specs.Entries.{palette_of}
@@ -12,7 +11,6 @@ use Rattle.levels.specs.Levels.{scale_of}
 use Rattle.figure.specs.Figure.{scan_sample, block_figure}
 use Rattle.figure.specs.Laws.{scan_same, block_same}
 use Rattle.smooth.specs.Smooth.{scene, Map, map, smoothed}
-use Rattle.smoothblock.specs.declared.Smoothed.{Smoothed}
 use Rattle.smoothblock.specs.Block.{cells_of, map_of, with_map, mapped, answer}
 
 pub map-moved : (c : PaletteConfig) (cu : PaletteCu) (sample : ℕ → ℕ → ℕ) (l : List ℕ) (t : Bool) (f : ℕ) → t ≡ true → f ≡ block_figure (scale_of c) (with_map cu l cu.sse) sample → with_map cu l f ≡ mapped c cu sample (map l t)

@@ -1,28 +1,24 @@
 // Smoothing of a block's index map, after the refusals.
 #![tactic(auto)]
 
-ghost use Rattle.std.specs.Prelude.{◌≡◌, true, ℕ, ◌≤◌};
+ghost use Rattle.std.specs.Prelude.{◌≡◌, true, ℕ, ◌≤◌, Ok};
 ghost use Rattle.model.specs.Domain.{config_in};
 ghost use Rattle.figure.specs.Laws.{in_rows};
 ghost use Rattle.smooth.specs.Smooth as D;
-ghost use Rattle.smoothblock.specs.Block.{mapped, answer};
+ghost use Rattle.smoothblock.specs.Block.{mapped, answer, as_smoothed};
 
+use entries::pack_palette;
+use figure::unroll;
 use model::{PaletteConfig, PaletteCu};
+use smooth::Scene;
+use smoothruns::smooth;
+use sse::block_figure;
 
-// A refusal's number and the block as it came, or 0, whether a run was moved, and the block made.
+// Whether a run was moved, and the block made.
 #[derive(Clone, Copy)]
-pub struct Smoothed {
-    pub refusal: u8,
+pub struct SmoothedBlock {
     pub changed: bool,
     pub cu: PaletteCu,
-}
-
-// The escape index of a palette of n entries.
-fn escape_of(n: usize) -> u8
-    requires { n ≤ 64 }
-    ensures { result ≡ n }
-{
-    n as u8
 }
 
 // A block with an index map; where a run was moved, the error figure anew.
@@ -36,40 +32,41 @@ fn with_map(
     requires { (config_in c ≡ true) × (cu.size ≤ 32) }
     ensures { result ≡ mapped c cu (in_rows cu.size cells.now) (D.map indices changed) }
 {
-    let mut out = cu;
-    out.indices = indices;
+    let out = PaletteCu { indices, ..cu };
     if changed {
-        let f = sse::block_figure(c, out, cells);
-        out.sse = f;
-        return out;
+        let sse = block_figure(c, out, cells);
+        PaletteCu { sse, ..out }
+    } else {
+        out
     }
-    out
 }
 
 // A block smoothed, from samples row by row.
-pub fn smooth_block(c: PaletteConfig, budget: f32, cu: PaletteCu, cells: &[u64; 1024]) -> Smoothed
+pub fn smooth_block(
+    c: PaletteConfig,
+    budget: f32,
+    cu: PaletteCu,
+    cells: &[u64; 1024],
+) -> SmoothedBlock
     requires { (config_in c ≡ true) × (1 ≤ cu.size) × (cu.size ≤ 32) × (cu.palette_size ≤ 64) }
-    ensures { result ≡ answer c budget cu (in_rows cu.size cells.now) }
+    ensures { as_smoothed cu (Ok result) ≡ answer c budget cu (in_rows cu.size cells.now) }
 {
-    let p = cu.palette;
-    let palette = entries::pack_palette(p);
-    let mut scan: [u64; 1024] = [0; 1024];
-    figure::unroll(cells, false, cu.size, &mut scan);
-    let mut indices = cu.indices;
-    let changed = smoothruns::smooth(
-        &scan,
-        &palette,
-        &mut indices,
-        cu.size,
-        cu.chroma_idc,
-        escape_of(cu.palette_size),
-        cu.tolerance,
+    let palette = pack_palette(cu.palette);
+    let mut scan = [0; 1024];
+    unroll(cells, false, cu.size, &mut scan);
+    let scene = Scene {
+        cells: &scan,
+        palette: &palette,
+        size: cu.size,
+        format: cu.chroma_idc,
+        escape: cu.palette_size as u8,
+        tolerance: cu.tolerance,
         budget,
-    );
-    let out = with_map(c, cu, cells, indices, changed);
-    Smoothed {
-        refusal: 0,
+    };
+    let mut indices = cu.indices;
+    let changed = smooth(&scene, &mut indices);
+    SmoothedBlock {
         changed,
-        cu: out,
+        cu: with_map(c, cu, cells, indices, changed),
     }
 }

@@ -6,7 +6,7 @@ ghost use Rattle.base.specs.Tests.{up_to};
 ghost use Rattle.h265.specs.Scan as S;
 ghost use Rattle.smooth.specs.Smooth as D;
 
-use smooth::{above, above_fits, colour, delta};
+use smooth::{Scene, above};
 
 // The length of the run of equal indices that starts at start.
 pub fn run_length(indices: &[u8; 1024], n: usize, start: usize) -> usize
@@ -14,73 +14,47 @@ pub fn run_length(indices: &[u8; 1024], n: usize, start: usize) -> usize
     ensures { (result ≡ D.run_length n indices.now start) × (1 ≤ result) × (start + result ≤ n) }
 {
     let v = indices[start];
-    let mut end = start + 1;
-    while end < n {
+    for end in start + 1..n {
         if indices[end] != v {
             return end - start;
         }
-        end += 1;
     }
-    end - start
+    n - start
 }
 
 // Whether every sample of a run fits an entry.
-pub fn run_fits(cells: &[u64; 1024], tol: u64, entry: u64, start: usize, len: usize) -> bool
+pub fn run_fits(s: &Scene, entry: u64, start: usize, len: usize) -> bool
     requires { start + len ≤ 1024 }
-    ensures { result ≡ up_to len (λ j. D.fits cells.now tol entry (start + j)) }
+    ensures { result ≡ up_to len (λ j. D.fits s.now.cells.now s.now.tolerance entry (start + j)) }
 {
-    let mut j: usize = 0;
-    while j < len {
-        if tol < quant::distance(entry, cells[start + j]) {
+    let cells = s.cells;
+    for cell in &cells[start..start + len] {
+        if s.tolerance < quant::distance(entry, *cell) {
             return false;
         }
-        j += 1;
     }
     true
 }
 
 // What recolouring a run from one entry to another adds.
-pub fn run_cost(
-    cells: &[u64; 1024],
-    format: u8,
-    size: usize,
-    from: u64,
-    to: u64,
-    start: usize,
-    len: usize,
-) -> f32
-    requires { (1 ≤ size) × (start + len ≤ 1024) }
-    ensures { result ≡ D.sum_from (D.delta format size cells.now from to) start len }
+pub fn run_cost(s: &Scene, from: u64, to: u64, start: usize, len: usize) -> f32
+    requires { (1 ≤ s.now.size) × (start + len ≤ 1024) }
+    ensures { result ≡ D.sum_from (D.delta s.now.format s.now.size s.now.cells.now from to) start len }
 {
-    let mut sum: f32 = -0.0;
-    let mut j: usize = 0;
-    while j < len {
-        sum = sum + delta(cells, format, size, from, to, start + j);
-        j += 1;
+    let mut sum = -0.0;
+    for i in start..start + len {
+        sum += s.delta(from, to, i);
     }
     sum
 }
 
 // Whether every index above a run fits.
-pub fn run_above_fits(
-    cells: &[u64; 1024],
-    palette: &[u64; 64],
-    indices: &[u8; 1024],
-    size: usize,
-    escape: u8,
-    tol: u64,
-    value: u8,
-    start: usize,
-    len: usize,
-) -> bool
-    requires { (1 ≤ size) × (size ≤ start) × (start + len ≤ 1024) × (length palette.now ≡ 64) }
-    ensures { result ≡ up_to len (λ j. D.above_fits size escape tol palette.now cells.now indices.now value (start + j)) }
+pub fn run_above_fits(s: &Scene, indices: &[u8; 1024], value: u8, start: usize, len: usize) -> bool
+    requires { (1 ≤ s.now.size) × (s.now.size ≤ start) × (start + len ≤ 1024) × (length s.now.palette.now ≡ 64) }
+    ensures { result ≡ up_to len (λ j. D.above_fits s.now.size s.now.escape s.now.tolerance s.now.palette.now s.now.cells.now indices.now value (start + j)) }
 {
-    let mut j: usize = 0;
-    while j < len {
-        if above_fits(cells, palette, indices, size, escape, tol, value, start + j) {
-            j += 1;
-        } else {
+    for i in start..start + len {
+        if !s.above_fits(indices, value, i) {
             return false;
         }
     }
@@ -88,25 +62,14 @@ pub fn run_above_fits(
 }
 
 // What copying a run from above adds.
-pub fn run_above_cost(
-    cells: &[u64; 1024],
-    palette: &[u64; 64],
-    indices: &[u8; 1024],
-    format: u8,
-    size: usize,
-    from: u64,
-    start: usize,
-    len: usize,
-) -> f32
-    requires { (1 ≤ size) × (size ≤ start) × (start + len ≤ 1024) × (length palette.now ≡ 64) }
-    ensures { result ≡ D.sum_from (λ i. D.delta format size cells.now from (get_or palette.now (S.above_at size indices.now i) 0) i) start len }
+pub fn run_above_cost(s: &Scene, indices: &[u8; 1024], from: u64, start: usize, len: usize) -> f32
+    requires { (1 ≤ s.now.size) × (s.now.size ≤ start) × (start + len ≤ 1024) × (length s.now.palette.now ≡ 64) }
+    ensures { result ≡ D.sum_from (λ i. D.delta s.now.format s.now.size s.now.cells.now from (get_or s.now.palette.now (S.above_at s.now.size indices.now i) 0) i) start len }
 {
-    let mut sum: f32 = -0.0;
-    let mut j: usize = 0;
-    while j < len {
-        let to = colour(palette, above(indices, size, start + j));
-        sum = sum + delta(cells, format, size, from, to, start + j);
-        j += 1;
+    let mut sum = -0.0;
+    for i in start..start + len {
+        let to = s.colour(above(indices, s.size, i));
+        sum += s.delta(from, to, i);
     }
     sum
 }

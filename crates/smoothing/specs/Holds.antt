@@ -2,12 +2,12 @@
 use Rattle.std.specs.Prelude.{Bool, List, ℕ, ◌*◌, ◌≤◌, ◌<◌, eqb, leb, Float, get_or}
 use Rattle.std.proofs.Math.Bool.{true, false}
 use Rattle.std.proofs.Math.Path.{◌≡◌, refl, ap, sym}
-use Rattle.std.proofs.Common.{subst, ◌∙◌, arith}
+use Rattle.std.proofs.Common.{subst, ◌∙◌}
 use borrow.Author.Tests.{le-leb, eqb-true}
 use Rattle.std.specs.Float.{nan}
 use Rattle.std.specs.Float.Ieee.{binary32, mul}
 use Rattle.base.specs.Pick.{pick, either}
-use Rattle.base.specs.Tests.{every, both, up_to, at_up_to}
+use Rattle.base.specs.Tests.{both, up_to, at_up_to}
 use Rattle.model.specs.Whole.{max_index, block_size_in, format_holds, counts_hold, entries_hold, levels_in, cell_holds, empty_holds, holds}
 use Rattle.model.specs.WholeLaws.{Whole, whole}
 use Rattle.model.specs.declared.PaletteConfig.{PaletteConfig}
@@ -16,9 +16,8 @@ use Rattle.model.specs.declared.SourceBlock.{SourceBlock}
 use Rattle.samples.specs.Samples.{color_at}
 use Rattle.sse.specs.Sse.{block_in}
 use Rattle.smooth.specs.Smooth.{Map}
-use Rattle.smoothblock.specs.Block.{scene_of, map_of, with_map, mapped, answer}
+use Rattle.smoothblock.specs.Block.{Smoothed, scene_of, map_of, with_map, mapped, answer}
 use Rattle.smoothblock.specs.Kept.{Keeps, smooth_keeps, nan_moves_nothing}
-use Rattle.smoothblock.specs.declared.Smoothed.{Smoothed}
 use Rattle.smoothing.specs.Smoothing.{smooth_refusal, smooth_of}
 use Rattle.smoothing.specs.Laws.{accepted}
 

@@ -1,12 +1,12 @@
 -- The answers of the entry point.
-use Rattle.std.specs.Prelude.{Bool, true, false, List, [], ◌∷◌, ◌++◌, ◌≡◌, refl, ℕ, ◌≤◌, ◌<◌, eqb, Float}
+use Rattle.std.specs.Prelude.{Bool, true, false, List, [], ◌∷◌, ◌≡◌, refl, ℕ, ◌≤◌, ◌<◌, Float}
 use Rattle.std.proofs.Common.{⊎_elim, sym, ◌∙◌, arith}
 use borrow.Author.Tests.{ne_eqb}
 use Rattle.std.specs.Float.{binary32}
 use Rattle.std.specs.Float.Ieee.{mul}
-use Rattle.base.specs.Pick.{pick, lt_or_le}
+use Rattle.base.specs.Pick.{lt_or_le}
 use Rattle.base.specs.Refusals.{refused-early, refused-late, refused_not}
-use Rattle.base.specs.Tests.{every, both, refusal}
+use Rattle.base.specs.Tests.{both, refusal}
 use Rattle.model.specs.Whole.{holds}
 use Rattle.model.specs.WholeLaws.{Whole, whole}
 use Rattle.model.specs.declared.PaletteConfig.{PaletteConfig}
@@ -17,7 +17,6 @@ use Rattle.source.specs.Source.{source_tests}
 use Rattle.source.specs.Laws.{source_numbers}
 use Rattle.sse.specs.Sse.{block_in}
 use Rattle.smoothblock.specs.Block.{answer}
-use Rattle.smoothblock.specs.declared.Smoothed.{Smoothed}
 use Rattle.smoothing.specs.Smoothing.{kind_in, smooth_refusal, smooth_of}
 
 -- the block holds together

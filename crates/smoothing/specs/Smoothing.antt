@@ -10,8 +10,7 @@ use Rattle.model.specs.declared.SourceBlock.{SourceBlock}
 use Rattle.samples.specs.Samples.{color_at}
 use Rattle.source.specs.Source.{source_tests}
 use Rattle.sse.specs.Sse.{block_in}
-use Rattle.smoothblock.specs.Block.{answer}
-use Rattle.smoothblock.specs.declared.Smoothed.{Smoothed}
+use Rattle.smoothblock.specs.Block.{Smoothed, answer}
 
 -- 15: neither transposed nor lossless
 unfoldable pub kind_in : Bool → Bool → Bool

@@ -2,19 +2,24 @@
 #![tactic(auto)]
 
 ghost use Rattle.std.specs.Prelude.{◌≡◌};
+ghost use Rattle.smoothblock.specs.Block.{as_smoothed};
 ghost use Rattle.smoothing.specs.Smoothing.{kind_in, smooth_of};
 
 use model::{PaletteConfig, PaletteCu, SourceBlock};
-use smoothblock::{Smoothed, smooth_block};
+use refusal::Refusal;
+use smoothblock::{SmoothedBlock, smooth_block};
+use source::fetch_block;
+use sse::block_in;
 
 // Whether a block is neither transposed nor lossless.
+#[tactic(auto, unfolding(crate::specs::Smoothing::kind_in))]
 fn kind_in(transpose: bool, lossless: bool) -> bool
     ensures { result ≡ kind_in transpose lossless }
 {
-    !transpose & !lossless
+    !transpose && !lossless
 }
 
-// The block with its index map smoothed, or a refusal and the block as it came.
+// The block with its index map smoothed, and whether a run was moved; or a refusal.
 pub fn smooth_indices(
     luma: &[u16],
     cb: &[u16],
@@ -24,31 +29,16 @@ pub fn smooth_indices(
     lambda: f32,
     bits_per_run: f32,
     cu: PaletteCu,
-) -> Smoothed
-    ensures { result ≡ smooth_of luma.now cb.now cr.now c g lambda bits_per_run cu }
+) -> Result<SmoothedBlock, Refusal>
+    ensures { as_smoothed cu result ≡ smooth_of luma.now cb.now cr.now c g lambda bits_per_run cu }
 {
-    let mut cells: [u64; 1024] = [0; 1024];
-    let k = source::source_refusal(luma, cb, cr, c, g, &mut cells);
-    if k != 0 {
-        return Smoothed {
-            refusal: k,
-            changed: false,
-            cu,
-        };
+    let mut cells = [0; 1024];
+    fetch_block(luma, cb, cr, c, g, &mut cells)?;
+    if !block_in(c, g, cu) {
+        return Err(Refusal::Block);
     }
-    if sse::block_in(c, g, cu) {
-        if kind_in(cu.transpose, cu.lossless) {
-            return smooth_block(c, lambda * bits_per_run, cu, &cells);
-        }
-        return Smoothed {
-            refusal: 15,
-            changed: false,
-            cu,
-        };
+    if !kind_in(cu.transpose, cu.lossless) {
+        return Err(Refusal::Smoothing);
     }
-    Smoothed {
-        refusal: 7,
-        changed: false,
-        cu,
-    }
+    Ok(smooth_block(c, lambda * bits_per_run, cu, &cells))
 }

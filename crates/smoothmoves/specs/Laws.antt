@@ -1,10 +1,10 @@
 -- When a run may be moved: the tests in their order.
-use Rattle.std.specs.Prelude.{Bool, true, false, List, ◌≡◌, refl, ℕ, ◌+◌, ◌-◌, ◌≤◌, ◌<◌, eqb, leb, get_or}
+use Rattle.std.specs.Prelude.{Bool, true, false, List, ◌≡◌, refl, ℕ, ◌+◌, ◌-◌, ◌≤◌, ◌<◌, leb, get_or}
 use Rattle.std.proofs.Common.{arith}
 use borrow.Author.Tests.{eq-eqb, ne_eqb, le-leb, lt-leb, leb-true}
 use Rattle.std.specs.Float.Ieee.{lt}
 use Rattle.base.specs.Pick.{pick}
-use Rattle.base.specs.Tests.{every, up_to, both}
+use Rattle.base.specs.Tests.{up_to, both}
 use Rattle.h265.specs.Scan.{above_at}
 use Rattle.smooth.specs.Smooth.{fits, delta, sum_from, Scene, above_fits, colour, joins, copies}
 

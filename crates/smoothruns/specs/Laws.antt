@@ -1,5 +1,5 @@
 -- The ways of a run, and one turn of the loop over runs.
-use Rattle.std.specs.Prelude.{Bool, true, false, ◌||◌, List, ◌≡◌, ℕ, ◌+◌, ◌*◌, ◌-◌, ◌<◌, eqb, get_or}
+use Rattle.std.specs.Prelude.{Bool, true, false, ◌||◌, List, ◌≡◌, ℕ, ◌+◌, ◌*◌, ◌-◌, ◌<◌, get_or}
 use Rattle.std.proofs.Common.{ap, sym, ◌∙◌, eq-eqb, ne_eqb}
 use Rattle.base.specs.Cells.{laid}
 use Rattle.base.specs.Pick.{pick}

@@ -1,10 +1,10 @@
 -- Colours joined bit by bit: no component is greater than that of the whole.
-use Rattle.std.specs.Prelude.{◌≡◌, refl, true, List, [], ◌∷◌, ℕ, zero, suc, ◌+◌, ◌/◌, ◌%◌, ◌^◌, ◌≤◌, ◌<◌, leb, get_or}
+use Rattle.std.specs.Prelude.{◌≡◌, true, List, ℕ, ◌+◌, ◌/◌, ◌%◌, ◌^◌, ◌≤◌, ◌<◌, leb, get_or}
 use Rattle.std.proofs.Common.{ap, sym, ◌∙◌, ⊎_elim, arith, le-leb, leb-true}
-use Rattle.std.specs.Int.Bits.{bit_and, bit_or, or_add_and}
+use Rattle.std.specs.Int.Bits.{bit_or, or_add_and}
 use Rattle.std.proofs.lemmas.Nat.{and_le_l, and_le_r, or_mod, or_shr}
 use Rattle.base.specs.Pick.{lt_or_le}
-use Rattle.base.specs.Tests.{every, both, at_up_to}
+use Rattle.base.specs.Tests.{both, at_up_to}
 use Rattle.quant.specs.Quant.{y_of, u_of, v_of}
 use Rattle.source.specs.Source.{fits, all_fit}
 

@@ -1,5 +1,5 @@
 -- What refusals 1 to 4 leave.
-use Rattle.std.specs.Prelude.{◌≡◌, refl, Bool, true, false, List, [], ◌∷◌, ℕ, zero, suc, ◌+◌, ◌*◌, ◌≤◌, ◌<◌, get_or, length}
+use Rattle.std.specs.Prelude.{◌≡◌, refl, Bool, true, List, [], ◌∷◌, ℕ, zero, suc, ◌+◌, ◌*◌, ◌≤◌, ◌<◌, get_or, length}
 use Rattle.std.proofs.Common.{ap, ◌∙◌, ⊎_elim, arith, ne_eqb}
 use Rattle.std.proofs.Math.Path.{sym}
 use Rattle.std.proofs.Math.Arith.{digits_lt, digits_div, digits_mod}
@@ -7,6 +7,9 @@ use Rattle.base.specs.Pick.{pick, lt_or_le}
 use Rattle.base.specs.Tests.{refusal, up_to-at, up_to-same}
 use Rattle.base.specs.Refusals.{Numbered, refused-early, refused-late, refused_not}
 use Rattle.base.specs.Cells.{laid, laid_in}
+use Rattle.refusal.specs.Refusal.{number_of}
+use Rattle.refusal.specs.declared.Refusal.{Refusal}
+use Rattle.refusal.specs.declared.Refusal.TheVariants.{Config, Geometry, Plane, Sample, Predictor, Rate, Block, Runs, Room, BinsEnd, BinClass, Value, TooManyColors, TooManyEscapes, Smoothing, InputFile}
 use Rattle.model.specs.Domain.{config_in, source_in, planes_in, most}
 use Rattle.model.specs.declared.PaletteConfig.{PaletteConfig}
 use Rattle.model.specs.declared.SourceBlock.{SourceBlock}

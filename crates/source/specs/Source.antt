@@ -1,5 +1,5 @@
 -- The refusals of a call that is given planes, and the colours it works on.
-use Rattle.std.specs.Prelude.{Bool, true, false, List, [], ◌∷◌, ◌++◌, ℕ, ◌*◌, eqb, leb, length}
+use Rattle.std.specs.Prelude.{Bool, List, [], ◌∷◌, ◌++◌, ℕ, ◌*◌, eqb, leb, length}
 use Rattle.base.specs.Pick.{pick}
 use Rattle.base.specs.Cells.{laid}
 use Rattle.base.specs.Tests.{every, up_to, refusal}

@@ -1,5 +1,5 @@
 -- The answers of the entry point.
-use Rattle.std.specs.Prelude.{Bool, true, false, List, [], ◌∷◌, ◌++◌, ◌≡◌, refl, ℕ, ◌+◌, ◌*◌, ◌≤◌, ◌<◌, get_or, length, eqb}
+use Rattle.std.specs.Prelude.{true, false, List, [], ◌∷◌, ◌≡◌, refl, ℕ, ◌*◌, ◌≤◌, get_or, length, eqb}
 use Rattle.std.proofs.Common.{ap, sym, ◌∙◌, arith}
 use borrow.Author.Tests.{ne_eqb, eqb-true}
 use Rattle.base.specs.Cells.{laid, laid_in}
@@ -17,7 +17,6 @@ use Rattle.levels.specs.Levels.{scale_of, value_at}
 use Rattle.levels.specs.declared.Scale.{Scale}
 use Rattle.figure.specs.Figure.{figure_of, block_figure}
 use Rattle.figure.specs.Laws.{in_rows, figure_same, block_same}
-use Rattle.sse.specs.declared.Figure.{Figure}
 use Rattle.sse.specs.Sse.{block_in, sse_refusal, sse_of}
 
 -- values that are laid make the block's figure

@@ -6,16 +6,11 @@ ghost use Rattle.model.specs.Domain.{config_in};
 ghost use Rattle.levels.specs.Levels.{scale_of};
 ghost use Rattle.figure.specs.Figure.{block_figure};
 ghost use Rattle.figure.specs.Laws.{in_rows};
-ghost use Rattle.sse.specs.Sse.{block_in, sse_of};
+ghost use Rattle.sse.specs.Sse.{as_figure, block_in, sse_of};
 
+use extent::area;
 use model::{PaletteConfig, PaletteCu, SourceBlock};
-
-// A refusal's number, or 0 and the error figure.
-#[derive(Clone, Copy)]
-pub struct Figure {
-    pub refusal: u8,
-    pub sse: u64,
-}
+use refusal::Refusal;
 
 // The error figure of a block against samples row by row.
 pub fn block_figure(c: PaletteConfig, cu: PaletteCu, cells: &[u64; 1024]) -> u64
@@ -23,18 +18,15 @@ pub fn block_figure(c: PaletteConfig, cu: PaletteCu, cells: &[u64; 1024]) -> u64
     ensures { result ≡ block_figure (scale_of c) cu (in_rows cu.size cells.now) }
 {
     let s = levels::scale_of(c);
-    let p = cu.palette;
-    let palette = entries::pack_palette(p);
-    let indices = cu.indices;
-    let escapes = cu.escapes;
-    let mut values: [u64; 1024] = [0; 1024];
-    let n = cu.size * cu.size;
+    let palette = entries::pack_palette(cu.palette);
+    let n = area(cu.size);
+    let mut values = [0; 1024];
     levels::values(
         s,
         &palette,
         cu.palette_size,
-        &indices,
-        escapes,
+        &cu.indices,
+        cu.escapes,
         n,
         &mut values,
     );
@@ -42,6 +34,7 @@ pub fn block_figure(c: PaletteConfig, cu: PaletteCu, cells: &[u64; 1024]) -> u64
 }
 
 // Whether a block holds together and is the call's.
+#[tactic(auto, unfolding(crate::specs::Sse::block_in, model::specs::Whole::matches_size))]
 pub fn block_in(c: PaletteConfig, g: SourceBlock, cu: PaletteCu) -> bool
     ensures { result ≡ block_in c g cu }
 {
@@ -56,17 +49,13 @@ pub fn palette_sse(
     c: PaletteConfig,
     g: SourceBlock,
     cu: PaletteCu,
-) -> Figure
-    ensures { result ≡ sse_of luma.now cb.now cr.now c g cu }
+) -> Result<u64, Refusal>
+    ensures { as_figure result ≡ sse_of luma.now cb.now cr.now c g cu }
 {
-    let mut cells: [u64; 1024] = [0; 1024];
-    let k = source::source_refusal(luma, cb, cr, c, g, &mut cells);
-    if k != 0 {
-        return Figure { refusal: k, sse: 0 };
+    let mut cells = [0; 1024];
+    source::fetch_block(luma, cb, cr, c, g, &mut cells)?;
+    if !block_in(c, g, cu) {
+        return Err(Refusal::Block);
     }
-    if block_in(c, g, cu) {
-        let f = block_figure(c, cu, &cells);
-        return Figure { refusal: 0, sse: f };
-    }
-    Figure { refusal: 7, sse: 0 }
+    Ok(block_figure(c, cu, &cells))
 }

@@ -1,6 +1,6 @@
 -- The prices that the tables of sums stand for, and the runs from one place by them.
-use Rattle.std.specs.Prelude.{◌≡◌, refl, Bool, true, false, List, [], ◌∷◌, ℕ, ◌+◌, ◌-◌, ◌≤◌, ◌<◌, eqb, ltb, leb, Float}
-use Rattle.std.proofs.Common.{ap, sym, ◌∙◌, arith}
+use Rattle.std.specs.Prelude.{◌≡◌, Bool, true, false, List, [], ◌∷◌, ℕ, ◌+◌, ◌≤◌, ◌<◌, eqb, ltb, Float}
+use Rattle.std.proofs.Common.{◌∙◌, arith}
 use Rattle.std.specs.Float.{binary32}
 use Rattle.std.specs.Float.Ieee.{add}
 use borrow.Author.Tests.{le-leb, lt-leb}
@@ -10,9 +10,9 @@ use Rattle.base.specs.Upto.{number}
 use Rattle.rates.specs.Rates.{index_rate}
 use Rattle.sums.specs.Sums.{row_of, run_from}
 use Rattle.syntax.specs.Runs.{may_copy}
-use Rattle.paths.specs.Cells.{copies, index_length, above_length, draws, sent_for, stops_at}
+use Rattle.paths.specs.Cells.{above_length, draws, sent_for}
 use Rattle.paths.specs.CellLaws.{above_zero, above-some}
-use Rattle.paths.specs.Plan.{Price, Job, job, Table, slot, flag_rate, alphabet_at, head_rate, draw_cost, copy_cost, relaxed, stopped, indexed, copied}
+use Rattle.paths.specs.Plan.{Price, Job, job, Table, slot, flag_rate, alphabet_at, head_rate, draw_cost, copy_cost, relaxed, indexed, copied}
 use Rattle.relax.specs.Jumps.{length_from, copy_from, drawn}
 use Rattle.relax.specs.JumpLaws.{Tables, drawn_is}
 use Rattle.starts.specs.declared.Terms.{Terms}

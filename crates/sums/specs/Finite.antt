@@ -1,14 +1,13 @@
 -- Rates from 0 to 64 keep every sum finite.
-use Rattle.std.specs.Prelude.{◌≡◌, refl, Bool, true, false, List, [], ◌∷◌, ℕ, zero, suc, ◌+◌, ◌*◌, ◌-◌, ◌/◌, ◌%◌, ◌^◌, ◌≤◌, ◌<◌, T, ltb, leb, eqb, Float, get_or, length}
-use Rattle.std.proofs.Common.{ap, sym, ◌∙◌, ⊎_elim, arith, lit≤, pow_mono, pow_pos, leb-true, eqb-true}
-use Rattle.std.specs.Float.{binary32}
-use Rattle.std.specs.Float.Ieee.{add, le}
+use Rattle.std.specs.Prelude.{◌≡◌, refl, Bool, true, false, [], ◌∷◌, ℕ, zero, suc, ◌+◌, ◌*◌, ◌-◌, ◌/◌, ◌%◌, ◌^◌, ◌≤◌, ◌<◌, T, ltb, leb, eqb, Float, get_or, length}
+use Rattle.std.proofs.Common.{sym, ⊎_elim, arith, lit≤, pow_mono, pow_pos, leb-true, eqb-true}
+use Rattle.std.specs.Float.Ieee.{le}
 use Rattle.std.proofs.lemmas.Bool.{eqb-false}
-use Rattle.base.specs.Pick.{pick, either, true_false, lt_or_le}
+use Rattle.base.specs.Pick.{either, true_false, lt_or_le}
 use Rattle.base.specs.Tests.{every, up_to, up_to-at}
 use Rattle.base.specs.Upto.{Upto, number, number_upto, within_upto, add_upto, weaken, share_upto}
 use Rattle.bins.specs.Logarithm.{flog-most}
-use Rattle.h265.specs.Strings.{bits, flog, short, tb, rice_of, run_class, prefix_of, suffixes}
+use Rattle.h265.specs.Strings.{flog, short, tb, rice_of, run_class, prefix_of, suffixes}
 use Rattle.h265.proofs.RunLaws.{prefix_most}
 use Rattle.h265.specs.StringLaws.{length-bits, flog-low}
 use Rattle.rates.specs.declared.RateModel.{RateModel}

@@ -1,7 +1,7 @@
 -- The tables' rates are the sums over the runs' bins.
-use Rattle.std.specs.Prelude.{◌≡◌, Bool, true, false, List, [], ◌∷◌, ◌++◌, ltb, eqb, Float, get_or, length}
+use Rattle.std.specs.Prelude.{◌≡◌, Bool, true, false, List, ◌++◌, ltb, eqb, Float, get_or, length}
 use Rattle.std.proofs.Math.Path.{refl}
-use Rattle.std.proofs.Common.{ap, sym, ◌∙◌, append-nil, add-zero, add-suc, suc-add, add-one, pow_mono, pow_pos, lt-ltb, le-ltb, ltb-true, ltb-false, eqb-true, ne_eqb}
+use Rattle.std.proofs.Common.{ap, sym, ◌∙◌, add-zero, pow_mono, pow_pos, lt-ltb, le-ltb, ltb-true, ltb-false, eqb-true, ne_eqb}
 use Prim.Native.Nat.{ℕ, zero, suc, ◌+◌, ◌*◌, ◌-◌, ◌/◌, ◌%◌, ◌^◌, ◌≤◌, ◌<◌}
 use native.Mathlib.Omega.{arith}
 use Rattle.std.specs.Float.{nan}
@@ -9,15 +9,14 @@ use Rattle.std.specs.Float.Ieee.{binary32, add}
 use Rattle.std.proofs.lemmas.Bool.{eqb-false}
 use Rattle.base.specs.Pick.{pick, either}
 use Rattle.base.specs.Cells.{laid, laid_in, laid-before, laid-length}
-use Rattle.base.specs.Powers.{pow_next, exp_lt}
+use Rattle.base.specs.Powers.{pow_next}
 use Rattle.base.specs.Upto.{number}
 use Rattle.bins.specs.Logarithm.{flog-most, suffixes-all}
-use Rattle.h265.specs.Strings.{bits, flog, short, unary, run_class, prefix_of, suffixes}
+use Rattle.h265.specs.Strings.{flog, short, unary, run_class, prefix_of, suffixes}
 use Rattle.h265.proofs.RunLaws.{prefix_most}
 use Rattle.h265.specs.StringLaws.{length-bits, flog-low, flog-high, flog-is}
 use Rattle.rates.specs.declared.RateModel.{RateModel}
-use Rattle.rates.specs.declared.Pair.{Pair}
-use Rattle.rates.specs.Rates.{Part, Bin, Row, one_bit, class_rates, rate_of, part_rate, sum_of, singly, tb_parts, suffix_parts, run_parts, run_rate}
+use Rattle.rates.specs.Rates.{Part, class_rates, rate_of, sum_of, singly, tb_parts, suffix_parts, run_parts, run_rate}
 use Rattle.sums.specs.Sums.{row_of, ones_sum, full_sum, with_bits, short_sum, Sums, tb_sum, suffix_sum, run_from}
 
 module _ (m : RateModel) where

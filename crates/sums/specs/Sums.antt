@@ -1,5 +1,5 @@
 -- A run's rate from two tables of sums, made once for a model: they hold, in a row for each kind of run, what a prefix of k ones costs.
-use Rattle.std.specs.Prelude.{◌≡◌, Bool, true, false, List, ℕ, zero, suc, ◌+◌, ◌*◌, ◌-◌, ◌^◌, ◌≤◌, ◌<◌, eqb, ltb, Float, get_or}
+use Rattle.std.specs.Prelude.{◌≡◌, Bool, List, ℕ, zero, suc, ◌+◌, ◌*◌, ◌-◌, ◌^◌, ◌<◌, eqb, ltb, Float, get_or}
 use Rattle.std.specs.Float.{nan, binary32}
 use Rattle.std.specs.Float.Ieee.{add}
 use Rattle.base.specs.Pick.{pick}

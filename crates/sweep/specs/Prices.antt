@@ -1,10 +1,9 @@
 -- The tables of a model's sums give the model's prices, and the planner's slots one by one.
-use Rattle.std.specs.Prelude.{◌≡◌, Bool, true, false, List, ℕ, ◌+◌, ◌/◌, ◌%◌, ◌≤◌, ◌<◌, eqb, Float, get_or}
+use Rattle.std.specs.Prelude.{◌≡◌, true, false, List, ℕ, ◌+◌, ◌/◌, ◌%◌, ◌≤◌, eqb, Float, get_or}
 use Rattle.std.proofs.Math.Path.{refl}
-use Rattle.std.proofs.Common.{ap, sym, ◌∙◌, add-one, arith}
+use Rattle.std.proofs.Common.{add-one, arith}
 use Rattle.std.specs.Float.{nan}
 use Rattle.std.specs.Float.Ieee.{lt}
-use Rattle.base.specs.Pick.{pick}
 use Rattle.rates.specs.Rates.{share_rate}
 use Rattle.rates.specs.declared.RateModel.{RateModel}
 use Rattle.sums.specs.Sums.{Sums}

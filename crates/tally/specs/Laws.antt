@@ -1,26 +1,27 @@
 -- The laws of the tally: how its answers come about, and that no stamp is above the generation after it.
-use Rattle.std.specs.Prelude.{Bool, List, [], ◌≡◌, refl, ℕ, zero, suc, ◌+◌, ◌*◌, ◌/◌, ◌%◌, ◌^◌, ◌≤◌, ◌<◌, min, length, get_or, set, replicate}
+use Rattle.std.specs.Prelude.{eqb, Bool, List, [], ◌≡◌, refl, ℕ, zero, suc, ◌+◌, ◌*◌, ◌/◌, ◌%◌, ◌^◌, ◌≤◌, ◌<◌, min, length, get_or, set, replicate}
 use Rattle.std.proofs.Math.Bool.{true, false}
-use Rattle.std.proofs.Common.{⊎_elim, ◌∙◌, ap, arith, lt-ltb, le-ltb, ltb-true, ltb-false, eq-eqb, ne_eqb, length-set, get_or-set_same, get_or-set_other}
+use Rattle.std.proofs.Common.{⊎_elim, ◌∙◌, ap, arith, lt-ltb, le-ltb, ltb-true, eq-eqb, ne_eqb, length-set, get_or-set_same, get_or-set_other}
 use Rattle.std.proofs.Math.Path.{sym}
 use Rattle.std.proofs.Math.Dec.{ltb}
 use Rattle.std.proofs.lemmas.List.{get_or-replicate}
-use Rattle.std.proofs.Math.Seq.{set_out}
 use Rattle.base.specs.Pick.{pick, either, true_false, lt_or_le, eq_or_ne}
 use Rattle.colors.specs.declared.ColorIndex.{ColorIndex}
 use Rattle.colors.specs.Table.{Table, tab, slot_of, after_of, generation_of, stamps_of, none_above, Holds}
 use Rattle.colors.specs.Laws.{fresh, cleared, stamps_length, none_above_lem, above-none}
 use Rattle.census.specs.declared.Census.{Census}
 use Rattle.census.specs.Census.{met_by, met, counts, too_many, census, census_of, table_to}
+use Rattle.census.specs.Laws.{met_ext, table_ext}
 use Rattle.luma.specs.Luma.{coarse}
 use Rattle.luma.specs.Laws.{pre_check_lem}
-use Rattle.tally.specs.declared.Tally.{Tally}
-use Rattle.tally.specs.declared.Counted.{Counted}
-use Rattle.tally.specs.Tally.{pre_check, index_at, moved_to, moved, index_of, colors_to, counted_of, tally_of}
+use Rattle.refusal.specs.declared.Refusal.{Refusal}
+use Rattle.refusal.specs.declared.Refusal.TheVariants.{Config, Geometry, Plane, Sample, Predictor, Rate, Block, Runs, Room, BinsEnd, BinClass, Value, TooManyColors, TooManyEscapes, Smoothing, InputFile}
+use Rattle.refusal.specs.Refusal.{number_of}
+use Rattle.tally.specs.Tally.{Tally, Counted, pre_check, index_at, moved_to, moved, index_of, colors_to, counted_of, tally_of}
 
 -- ---- refusal 13
 
-over : (d n : ℕ) → 128 < d → too_many d n ≡ true
+pub over : (d n : ℕ) → 128 < d → too_many d n ≡ true
 unfolding too_many
 over d n h = rw (lt-ltb 128 d h)
 
@@ -71,6 +72,15 @@ module _ (xs : List ℕ) (n shift g g' : ℕ) (e : g' ≡ generation_of g) (foun
       in
       rw b (λ i. record { answer = 0; kept = q i; generation = e i; colors = w i })
 
+-- refusal 13's two tests, of a count that is at most 128
+pub many_by : (d n : ℕ) → n < d * 2 → too_many d n ≡ true
+unfolding too_many
+many_by d n h = either (ltb 128 d) (λ e. rw e) (λ e. rw (e, lt-ltb n (d * 2) h))
+
+pub few_by : (d n : ℕ) → d ≤ 128 → d * 2 ≤ n → too_many d n ≡ false
+unfolding too_many
+few_by d n l h = rw (le-ltb 128 d l, le-ltb n (d * 2) h)
+
 -- the slots stay as many
 after_wide : (t : Table) (g key next : ℕ) → (length (after_of t g key next).keys ≡ length t.keys) × (length (after_of t g key next).entry ≡ length t.entry) × (length (after_of t g key next).stamp ≡ length t.stamp)
 unfolding after_of
@@ -113,6 +123,24 @@ module _ (c : ColorIndex) (xs : List ℕ) (n shift : ℕ) (d : Counted) (v : d �
   tally-moved h ks es ss e =
       let k : pre_check xs n shift ≡ false = sym (ap (λ (z : Counted). z.kept) v) ∙ h in
       rw k (λ i. record { answer = (v i).answer; colors = (v i).colors; index = index_at (e i) (v i).generation })
+
+-- from what the count and the pre-check found: the answer and the counter after it
+module _ (k after : ColorIndex) (xs : List ℕ) (n shift : ℕ) (found : Census) (v : found ≡ census_of xs n) (g : after.generation ≡ generation_of k.generation) (t : tab after.keys after.entry after.stamp ≡ moved_to k.keys k.entry k.stamp k.generation xs n) where
+  pub tally-few : too_many found.distinct n ≡ false → ◌≡◌ {A = Tally} (record { answer = 0; colors = found; index = after }) (tally_of k xs n shift)
+  tally-few h = tally-moved k xs n shift (record { answer = 0; kept = false; generation = after.generation; colors = found }) (counted xs n shift k.generation after.generation g found v h) refl after.keys after.entry after.stamp t
+
+  module _ (h : too_many found.distinct n ≡ true) (limit : ℕ) (l : limit ≡ min (n / 2) 128) (kept : Bool) (q : kept ≡ ltb limit (length (met_by (coarse shift) xs n))) where
+    abbrev refused : Counted
+    refused = record { answer = 13; kept = kept; generation = after.generation; colors = census 0 [] [] }
+
+    is : refused ≡ counted_of xs n shift k.generation
+    is = many xs n shift k.generation after.generation g found v (census 0 [] []) refl h limit l kept q
+
+    pub tally-many-kept : kept ≡ true → ◌≡◌ {A = Tally} (record { answer = 13; colors = census 0 [] []; index = k }) (tally_of k xs n shift)
+    tally-many-kept z = tally-kept k xs n shift refused is z
+
+    pub tally-many-moved : kept ≡ false → ◌≡◌ {A = Tally} (record { answer = 13; colors = census 0 [] []; index = after }) (tally_of k xs n shift)
+    tally-many-moved z = tally-moved k xs n shift refused is z after.keys after.entry after.stamp t
 
 -- at most 128 colours are answered
 pub counted-small : (xs : List ℕ) (n : ℕ) → (colors_to xs n).distinct ≤ 128
@@ -160,3 +188,11 @@ unfolding index_of moved
 index-holds c xs n shift l h =
     either (pre_check xs n shift) (λ e. rw e h)
     (λ e. rw e (table-holds (tab c.keys c.entry (stamps_of c.generation c.stamp)) (generation_of c.generation) xs n (cleared-holds c.stamp c.generation l h)))
+
+-- only the first n samples count
+pub index_ext : (c : ColorIndex) (xs ys : List ℕ) (n shift : ℕ) → ((i : ℕ) → i < n → get_or xs i 0 ≡ get_or ys i 0) → index_of c xs n shift ≡ index_of c ys n shift
+unfolding index_of moved pre_check
+index_ext c xs ys n shift h =
+    let m = met_ext (coarse shift) xs ys n h in
+    let t = table_ext (tab c.keys c.entry (stamps_of c.generation c.stamp)) (generation_of c.generation) xs ys n h in
+    (λ j. pick (ltb (min (n / 2) 128) (length (m j))) c (index_at (t j) (generation_of c.generation)))

@@ -1,13 +1,26 @@
 -- A block's colours or refusal 13, and the colour counter after it. Definitions only.
-use Rattle.std.specs.Prelude.{Bool, List, [], ℕ, ◌/◌, min, ltb, length}
+use Rattle.std.specs.Prelude.{Result, Ok, Err, Bool, List, [], ℕ, ◌/◌, min, ltb, length}
 use Rattle.base.specs.Pick.{pick}
 use Rattle.colors.specs.declared.ColorIndex.{ColorIndex}
 use Rattle.colors.specs.Table.{Table, tab, generation_of, stamps_of}
 use Rattle.census.specs.Census.{met_by, met, counts, too_many, census, table_to}
 use Rattle.luma.specs.Luma.{coarse}
 use Rattle.census.specs.declared.Census.{Census}
-use Rattle.tally.specs.declared.Counted.{Counted}
-use Rattle.tally.specs.declared.Tally.{Tally}
+use Rattle.refusal.specs.declared.Refusal.{Refusal}
+use Rattle.refusal.specs.Refusal.{number_of}
+
+-- 0 and a block's colours, or 13 and none; and the counter after it
+pub record Tally : Type 0 where
+  pub answer : ℕ
+  pub colors : Census
+  pub index : ColorIndex
+
+-- the same; whether the counter was to be kept; and its generation if not
+pub record Counted : Type 0 where
+  pub answer : ℕ
+  pub kept : Bool
+  pub generation : ℕ
+  pub colors : Census
 
 -- the luma pre-check refuses: more luma values of 8 bits than half the samples, or than 128
 unfoldable pub pre_check : List ℕ → ℕ → ℕ → Bool
@@ -42,3 +55,8 @@ counted_of xs n shift g = record { answer = answer_to xs n; kept = pre_check xs 
 -- the same, with the counter after it
 unfoldable pub tally_of : ColorIndex → List ℕ → ℕ → ℕ → Tally
 tally_of c xs n shift = record { answer = answer_to xs n; colors = colors_to xs n; index = index_of c xs n shift }
+
+-- an answer with the counter after it; a refusal has no colours
+abbrev pub as_tally : Result Census Refusal → ColorIndex → Tally
+as_tally (Ok found) c = record { answer = 0; colors = found; index = c }
+as_tally (Err r) c = record { answer = number_of r; colors = census 0 [] []; index = c }

@@ -1,7 +1,7 @@
 -- What refusals 1 to 3 leave of a target.
-use Rattle.std.specs.Prelude.{◌≡◌, Bool, true, false, List, [], ◌∷◌, ℕ, ◌*◌, ◌/◌, ◌≤◌, eqb, leb}
+use Rattle.std.specs.Prelude.{◌≡◌, true, [], ◌∷◌, ℕ, ◌*◌, ◌/◌, ◌≤◌, eqb, leb}
 use Rattle.std.proofs.Common.{sym, ◌∙◌, le-div_iff_mul-le, arith, ne_eqb, leb-true, le-leb}
-use Rattle.base.specs.Pick.{pick, either, true_false}
+use Rattle.base.specs.Pick.{either, true_false}
 use Rattle.base.specs.Tests.{every, any, both, pick_test, refusal}
 use Rattle.base.specs.Refusals.{Numbered, refused_not}
 use Rattle.model.specs.Domain.{config_in, source_in}
@@ -18,9 +18,6 @@ room_div stride height n h =
     either (leb stride (n / height))
     (λ u. absurd (true_false (sym (le-leb (stride * height) n ((le-div_iff_mul-le h).0 (leb-true stride (n / height) u))) ∙ t)))
     (λ u. u ∙ sym t))
-
-pub room-none : (stride n : ℕ) → leb (stride * 0) n ≡ true
-room-none stride n = le-leb (stride * 0) n (omega arith)
 
 pub target_numbers : (c : PaletteConfig) (g : SourceBlock) (ys cs y b r : ℕ) → Numbered (target_tests c g ys cs y b r)
 target_numbers c g ys cs y b r = (omega arith, (omega arith, (omega arith, tt)))

@@ -24,7 +24,7 @@ use Rattle.model.specs.declared.PaletteCu.{PaletteCu}
 use Rattle.model.specs.declared.PalettePredictor.{PalettePredictor}
 use Rattle.read.specs.Reading.{formats_in, sizes_in, read_refusal, read_answer, read_of, read_done}
 use Rattle.readblock.specs.Read.{call_for, zip_levels, cu_read, refused_of, answer_of}
-use Rattle.readblock.specs.declared.BlockRead.{BlockRead}
+use Rattle.readblock.specs.Read.{BlockRead}
 use Rattle.syntax.specs.Block.{Call, Told, palette_bins, entries_bins, levels_bins, chroma_due, block_bins, read_block}
 use Rattle.syntax.specs.Block as B
 use Rattle.syntax.specs.BlockPlaces.{fair_block}

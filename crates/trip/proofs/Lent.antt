@@ -8,20 +8,17 @@ use Rattle.model.specs.Whole.{max_index, holds}
 use Rattle.model.specs.declared.PaletteCu.{PaletteCu}
 use Rattle.model.specs.declared.PalettePredictor.{PalettePredictor}
 use Rattle.model.specs.declared.PaletteRun.{PaletteRun}
+use Rattle.plan.specs.Planned.{Plan, Planned, Nothing, Runs, Refused}
 use Rattle.plan.specs.Answer.{runs_for, answer_for, plan_of}
-use Rattle.plan.specs.declared.Plan.{Plan}
-use Rattle.plan.specs.declared.Planned.{Planned}
-use Rattle.plan.specs.declared.Planned.TheVariants.{Nothing, Runs, Refused}
 use Rattle.planlist.specs.After.{count_of, runs_after}
 use Rattle.planlist.proofs.AfterLaws.{after-runs, after_nothing, after-refused}
 use Rattle.rates.specs.Rates.{rates_in}
 use Rattle.rates.specs.declared.RateModel.{RateModel}
-use Rattle.readlist.specs.After.{cu_read_of}
+use Rattle.readlist.specs.After.{CuRead, cu_read_of}
 use Rattle.readlist.specs.After as R
 use Rattle.readlist.specs.AfterLaws as L
-use Rattle.readlist.specs.declared.CuRead.{CuRead}
 use Rattle.write.specs.Write.{bins_of, write_of, list_after}
-use Rattle.write.specs.declared.Written.{Written}
+use Rattle.write.specs.Written.{Written}
 use Rattle.eyes.specs.Ready.{Ready, Arrays}
 use Rattle.trip.specs.Demand.{Covers, Same, runs_sent}
 use Rattle.trip.proofs.Trip.{few, runs_hold_lem, runs_cover, plan-is, runs_are}

@@ -8,9 +8,9 @@ use Rattle.model.specs.Whole.{max_index, block_size_in, holds}
 use Rattle.model.specs.WholeLaws.{whole}
 use Rattle.model.specs.declared.PaletteCu.{PaletteCu}
 use Rattle.model.specs.declared.PalettePredictor.{PalettePredictor}
+use Rattle.plan.specs.Planned.{Plan}
 use Rattle.plan.specs.Answer.{runs_for, answer_for, plan_with, plan_of}
 use Rattle.plan.specs.AnswerLaws.{block_is}
-use Rattle.plan.specs.declared.Plan.{Plan}
 use Rattle.planlist.specs.After.{count_of}
 use Rattle.finish.specs.Front.{front-runs}
 use Rattle.planned.specs.Planning.{plan-rules, plan-keeps, plan-alphabets, plan-count}

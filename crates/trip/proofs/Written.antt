@@ -19,13 +19,13 @@ use Rattle.model.specs.declared.PaletteCu.{PaletteCu}
 use Rattle.model.specs.declared.PalettePredictor.{PalettePredictor}
 use Rattle.read.specs.Reading.{formats_in, sizes_in, read_refusal, read_of, read_done}
 use Rattle.readblock.specs.Read.{cu_read, answer_of}
-use Rattle.readblock.specs.declared.BlockRead.{BlockRead}
+use Rattle.readblock.specs.Read.{BlockRead}
 use Rattle.syntax.specs.Block.{palette_bins, entries_bins, levels_bins, chroma_due, block_bins, read_block}
 use Rattle.syntax.specs.Records.{no_run, block_of}
 use Rattle.syntax.specs.Runs.{Run}
 use Rattle.syntax.specs.Whole.{top_index, read_back}
 use Rattle.syntax.proofs.WholeLaws.{written_read}
-use Rattle.write.specs.declared.Written.{Written}
+use Rattle.write.specs.Written.{Written}
 use Rattle.write.specs.Write.{bins_of, runs_hold, write_refusal, write_of, list_after}
 use Rattle.eyes.specs.Ready.{Ready, Arrays}
 use Rattle.trip.specs.Demand.{transpose_sent, runs_sent, Back, WriteRead}

@@ -9,7 +9,7 @@ use Rattle.std.proofs.lemmas.List.{take-append-le}
 use borrow.Author.Tests.{le-leb, leb-true, eqb-true, eqb-false, eq-eqb, ltb-true, ltb-false}
 use Rattle.model.specs.Whole.{holds}
 use Rattle.model.specs.declared.PalettePredictor.{PalettePredictor}
-use Rattle.readblock.specs.declared.BlockRead.{BlockRead}
+use Rattle.readblock.specs.Read.{BlockRead}
 use Rattle.syntax.specs.Block as B
 use Rattle.syntax.specs.Whole as S
 use Rattle.write.specs.Write.{bins_of, runs_hold}

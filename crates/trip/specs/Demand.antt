@@ -7,18 +7,18 @@ use Rattle.model.specs.Whole.{max_index, no_levels}
 use Rattle.model.specs.declared.Levels.{Levels}
 use Rattle.model.specs.declared.PaletteCu.{PaletteCu}
 use Rattle.model.specs.declared.PalettePredictor.{PalettePredictor}
+use Rattle.plan.specs.Planned.{Plan}
 use Rattle.plan.specs.Answer.{answer_for, plan_of}
-use Rattle.plan.specs.declared.Plan.{Plan}
 use Rattle.planlist.specs.After.{count_of}
 use Rattle.rates.specs.declared.RateModel.{RateModel}
 use Rattle.read.specs.Reading.{read_of}
-use Rattle.readblock.specs.declared.BlockRead.{BlockRead}
+use Rattle.readblock.specs.Read.{BlockRead}
 use Rattle.syntax.specs.Block.{chroma_due}
 use Rattle.syntax.specs.Records.{call_of}
 use Rattle.syntax.specs.ReplayLaws.{First}
 use Rattle.syntax.specs.Runs.{Run, sent_of}
 use Rattle.write.specs.Write.{bins_of, write_of, list_after}
-use Rattle.write.specs.declared.Written.{Written}
+use Rattle.write.specs.Written.{Written}
 
 -- ---- a plan's runs
 

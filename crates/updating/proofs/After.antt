@@ -1,5 +1,5 @@
 -- The predictor that was lent to an update, after it.
-use Rattle.std.specs.Prelude.{◌≡◌, refl, ℕ, take}
+use Rattle.std.specs.Prelude.{◌≡◌, ℕ, take}
 use Rattle.std.proofs.Common.{ne_eqb}
 use Rattle.h265.specs.Predictor.{updated}
 use Rattle.model.specs.declared.PaletteCu.{PaletteCu}

@@ -3,14 +3,15 @@
 
 ghost use Rattle.std.specs.Prelude.{◌≡◌};
 ghost use Rattle.predictor.specs.Update.{update_of};
+ghost use Rattle.refusal.specs.Refusal.{code_of};
 
 use model::{PaletteCu, PalettePredictor};
+use refusal::Refusal;
 
-// The lent predictor becomes the one after a block. Answers a refusal's number, which leaves it as it was, or 0.
-pub fn update(p: &mut PalettePredictor, cu: PaletteCu, limit: usize) -> u8
-    ensures { (result ≡ (update_of p.old cu limit).refusal) × (p.new ≡ (update_of p.old cu limit).predictor) }
+// The lent predictor becomes the one after a block, or there is a refusal, which leaves it as it was.
+pub fn update(p: &mut PalettePredictor, cu: PaletteCu, limit: usize) -> Result<(), Refusal>
+    ensures { (code_of result ≡ (update_of p.old cu limit).refusal) × (p.new ≡ (update_of p.old cu limit).predictor) }
 {
-    let u = predictor::update(*p, cu, limit);
-    *p = u.predictor;
-    u.refusal
+    *p = predictor::update(*p, cu, limit)?;
+    Ok(())
 }

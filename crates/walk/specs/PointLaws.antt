@@ -1,18 +1,16 @@
 -- The points that the walk back lays are those of the path, and the runs between them its runs.
-use Rattle.std.specs.Prelude.{◌≡◌, Bool, true, false, ℕ, zero, suc, ◌+◌, ◌*◌, ◌-◌, ◌≤◌, ◌<◌, eqb, get_or, set, length}
+use Rattle.std.specs.Prelude.{◌≡◌, Bool, false, ℕ, zero, suc, ◌+◌, ◌≤◌, ◌<◌, eqb, get_or, set, length}
 use Rattle.std.proofs.Math.Path.{refl}
-use Rattle.std.proofs.Common.{ap, sym, ◌∙◌, ⊎_elim, add-zero, zero-add, le_refl, add-one, arith, length-append, length-set, get_or-set_same, get_or-set_other, ne_eqb, eq-eqb, eqb-true}
+use Rattle.std.proofs.Common.{sym, ◌∙◌, add-zero, zero-add, le_refl, add-one, arith, length-append, length-set, get_or-set_same, get_or-set_other, ne_eqb, eq-eqb}
 use mathlib.Core.List.{List, [], ◌∷◌, ◌++◌, map, map-append}
 use Rattle.std.proofs.lemmas.List.{length-map}
 use Rattle.std.proofs.lemmas.List.Edits.{sets}
-use Rattle.std.proofs.Math.Seq.{length-sets}
 use Rattle.std.proofs.lemmas.Bool.{eqb-false}
 use Rattle.base.specs.Codes.{All}
-use Rattle.base.specs.Pick.{pick, either}
+use Rattle.base.specs.Pick.{either}
 use Rattle.h265.specs.Scan.{above_at}
 use Rattle.model.specs.declared.PaletteRun.{PaletteRun}
-use Rattle.cells.specs.Steps.{reference_in, sent_in_lem}
-use Rattle.paths.specs.Cells.{sent_from, sent_for}
+use Rattle.cells.specs.Steps.{sent_in_lem}
 use Rattle.paths.specs.Plan.{slot, Point, point, trail, run_to, runs_of}
 use Rattle.walk.specs.Points.{Falls, LaidPoints, points_in, Rising, run_in, runs_in}
 

@@ -1,5 +1,5 @@
 -- The ends of a path's runs in two arrays, and the runs between them.
-use Rattle.std.specs.Prelude.{◌≡◌, Bool, true, false, List, [], ◌∷◌, map, ℕ, zero, suc, ◌+◌, ◌-◌, ◌≤◌, ◌<◌, get_or, length}
+use Rattle.std.specs.Prelude.{◌≡◌, Bool, false, List, [], ◌∷◌, map, ℕ, zero, suc, ◌-◌, ◌≤◌, ◌<◌, get_or, length}
 use Rattle.std.proofs.lemmas.List.Edits.{sets}
 use Rattle.base.specs.Pick.{pick}
 use Rattle.model.specs.declared.PaletteRun.{PaletteRun}

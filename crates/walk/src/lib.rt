@@ -9,24 +9,16 @@ ghost use Rattle.walk.specs.Points.{Falls, LaidPoints, no_run, run_in, points_in
 use cells::{reference_in, sent_from};
 use model::PaletteRun;
 
-fn wide(x: u16) -> usize
-    ensures { result ≡ x }
-{
-    x as usize
-}
-
 // The slot of place q after a run of kind k.
 fn slot_of(q: usize, k: bool) -> usize
     requires { q ≤ 1024 }
     ensures { (result ≡ slot q k) × (result < 2050) }
 {
-    if k {
-        return q * 2 + 1;
-    }
-    q * 2
+    if k { q * 2 + 1 } else { q * 2 }
 }
 
 // Lays the ends of the path's runs up to q, in order, and answers how many.
+// Stays a recursion: the walk goes back, and the ends are laid from the first on. Stays two lists: the definition LaidPoints speaks of each.
 pub fn lay(
     pos: &[u16; 2050],
     st: &[bool; 2050],
@@ -43,7 +35,7 @@ pub fn lay(
         return 0;
     }
     let s = slot_of(q, k);
-    let p = wide(pos[s]);
+    let p = usize::from(pos[s]);
     let i = lay(pos, st, p, st[s], ends, kinds);
     ends[i] = q as u16;
     kinds[i] = k;
@@ -62,26 +54,21 @@ pub fn run_to(
     requires { (p < q) × (q ≤ 1024) }
     ensures { result ≡ run_in xs.now above.now p pk q k }
 {
-    let more = (q - p - 1) as u32;
-    let start = p as u32;
-    if k {
-        return PaletteRun {
-            above: true,
-            sent: 0,
-            more,
-            start,
-        };
-    }
-    let f = reference_in(xs, above, p, pk);
+    let sent = if k {
+        0
+    } else {
+        sent_from(p, xs[p], reference_in(xs, above, p, pk))
+    };
     PaletteRun {
-        above: false,
-        sent: sent_from(p, xs[p], f),
-        more,
-        start,
+        above: k,
+        sent,
+        more: (q - p - 1) as u32,
+        start: p as u32,
     }
 }
 
 // The runs between the first `count` of the ends.
+// Stays lists with a count: the definition points_in takes the count beside them.
 pub fn runs_of(
     xs: &[u8; 1024],
     above: &[u8; 1024],
@@ -99,16 +86,13 @@ pub fn runs_of(
         start: 0,
     };
     let mut runs = [none; 1024];
-    let mut i: usize = 0;
     let mut p: usize = 0;
     let mut k = false;
-    while i < count {
-        let q = wide(ends[i]);
-        let l = kinds[i];
-        runs[i] = run_to(xs, above, p, k, q, l);
+    for i in 0..count {
+        let q = usize::from(ends[i]);
+        runs[i] = run_to(xs, above, p, k, q, kinds[i]);
         p = q;
-        k = l;
-        i += 1;
+        k = kinds[i];
     }
     runs
 }

@@ -1,5 +1,5 @@
 -- The clauses of "holds together" over the numbers that the code holds, and the cells in two passes.
-use Rattle.std.specs.Prelude.{◌≡◌, refl, Bool, false, ◌&&◌, List, [], ◌∷◌, ℕ, ◌+◌, ◌*◌, ◌-◌, ◌≤◌, ◌<◌, min, eqb, get_or, take}
+use Rattle.std.specs.Prelude.{◌≡◌, refl, Bool, false, ◌&&◌, List, [], ◌∷◌, ℕ, ◌+◌, ◌*◌, ◌-◌, ◌≤◌, ◌<◌, min, eqb, get_or, length, take, drop, cond, count_by}
 use Rattle.std.proofs.Math.Path.{ap, sym}
 use Rattle.std.proofs.Common.{◌∙◌, ⊎_elim}
 use Rattle.std.proofs.Math.Bool.{true, not}
@@ -7,6 +7,9 @@ use Rattle.std.specs.Bool.{beq}
 use native.Mathlib.Omega.{arith}
 use borrow.Author.Tests.{leb-true, le-leb, lt-leb, eq-eqb, ne_eqb, eqb-true, eqb-false, not-true}
 use Rattle.std.proofs.Math.Dec.{leb}
+use Rattle.std.proofs.Math.ListN.{length-take, length-drop}
+use Rattle.std.proofs.lemmas.List.{get_or-take, get_or-drop}
+use Rattle.std.proofs.lemmas.List.Recursion.{is_count_by}
 use Rattle.base.specs.Pick.{pick, either, lt_or_le}
 use Rattle.base.specs.Tests.{every, any, both, up_to, ands, ands-every, every_append, every-swap, and_pick, pick_and, up_to-both, up_to-same, up_to-at, at_up_to, pick_test}
 use Rattle.h265.specs.Reuse.{trues}
@@ -98,6 +101,15 @@ module _ (l : List ℕ) (i n p : ℕ) where
       let j : k - i < 16 = omega arith in
       let z : i + (k - i) ≡ k = omega arith in
       eqb-false (get_or l k 0) p (rw z at (not-true (eqb (get_or l (i + (k - i)) 0) p) (up_to-at (λ j. not (eqb (get_or l (i + j) 0) p)) 16 t.0 (k - i) j))) q
+
+-- the 16 cells as a part of the list
+pub quiet_cells : (l : List ℕ) (i n p j : ℕ) → i + 16 ≤ n → n ≤ length l → j ≤ length (take (i + 16 - i) (drop i l)) → length (take (i + 16 - i) (drop i l)) ≤ j → up_to j (λ k. not (eqb (get_or (take (i + 16 - i) (drop i l)) k 0) p)) ≡ quiet_from l i n p
+quiet_cells l i n p j h m lo hi =
+    let e : j ≡ 16 = omega (arith, length-take (i + 16 - i) (drop i l), length-drop i l) in
+    rw e
+    (up_to-same 16 _ _
+    (λ k s. let w : k < i + 16 - i = omega arith in rw (get_or-take (i + 16 - i) (drop i l) k 0 w, get_or-drop i l k 0))
+    ∙ quiet_is l i n p h)
 
 -- so the escapes of these cells hold
 pub quiet_on : (cu : PaletteCu) (i n p : ℕ) → p ≡ cu.palette_size → quiet_from cu.indices i n p ≡ true → up_to i (escape_holds cu) ≡ true → up_to (i + 16) (escape_holds cu) ≡ true
@@ -200,6 +212,16 @@ beq_same true true = refl
 beq_same true false = refl
 beq_same false true = refl
 beq_same false false = refl
+
+-- the flags that are on, as code counts them
+trues_next : (b : Bool) (bs : List Bool) → trues (b ∷ bs) ≡ cond b (1 + trues bs) (trues bs)
+unfolding trues
+trues_next true bs = omega arith
+trues_next false bs = refl
+
+pub trues_count : (fs : List Bool) → trues fs ≡ count_by (λ b. b) fs
+unfolding trues
+trues_count fs = is_count_by trues (λ b. b) refl trues_next fs
 
 -- the rest of a palette, as code takes it
 pub counts_less : (t f signaled size : ℕ) → t ≡ f → size < t → false ≡ eqb (f + signaled) size

@@ -1,7 +1,7 @@
 // When a block holds together, clause by clause.
 #![tactic(auto)]
 
-ghost use Rattle.std.specs.Prelude.{◌≡◌, ◌+◌, ◌-◌, ◌*◌, ◌≤◌, eqb, leb, get_or, take};
+ghost use Rattle.std.specs.Prelude.{◌≡◌, ◌+◌, ◌-◌, ◌*◌, ◌≤◌, eqb, leb, length, get_or};
 ghost use Rattle.base.specs.Tests.{up_to};
 ghost use Rattle.h265.specs.Reuse.{trues};
 ghost use Rattle.h265.specs.Strings.{bit};
@@ -10,6 +10,7 @@ ghost use Rattle.model.specs.Whole.{block_size_in, matches, cell_holds, holds, a
 ghost use Rattle.whole.specs.Parts.{size_holds, format_are, empty_is, frame_holds, level_cap, chroma_cap, Within, luma_cap_of, chroma_cap_of, escape_holds, quiet_from};
 
 use domain::{color_in, depth_in, even_in, most_in, size_in};
+use extent::{area, greatest_index};
 use model::{Color, Levels, PaletteConfig, PaletteCu};
 
 // Whether a size is in the domain, and even where the format asks it.
@@ -20,6 +21,7 @@ fn size_holds(format: u8, size: usize) -> bool
 }
 
 // The test for refusal 2 of a call that is given a block and no size.
+#[tactic(auto, unfolding(model::specs::Whole::block_size_in))]
 pub fn block_size_in(cu: PaletteCu) -> bool
     ensures { result ≡ block_size_in cu }
 {
@@ -43,74 +45,32 @@ fn format_holds(format: u8, luma: u8, chroma: u8) -> bool
     (format <= 3) & depth_in(luma) & depth_in(chroma)
 }
 
-// How many of the first `count` flags are on.
-fn flagged(flags: [bool; 128], count: usize) -> usize
-    requires { count ≤ 128 }
-    ensures { result ≡ trues (take count flags) }
+// How many flags are on.
+#[tactic(auto, using(crate::specs::Parts::trues_count))]
+fn flagged(flags: &[bool]) -> usize
+    ensures { (result ≡ trues flags.now) × (result ≤ length flags.now) }
 {
-    let mut t: usize = 0;
-    let mut i: usize = 0;
-    while i < count {
-        if flags[i] {
-            t += 1;
-        }
-        i += 1;
-    }
-    t
+    flags.iter().filter(|flag| **flag).count()
 }
 
 // Whether flagged and signalled entries make the palette.
-fn counts_hold(flags: [bool; 128], count: usize, signaled: usize, size: usize) -> bool
-    requires { count ≤ 128 }
-    ensures { result ≡ eqb (trues (take count flags) + signaled) size }
+fn counts_hold(flags: &[bool], signaled: usize, size: usize) -> bool
+    ensures { result ≡ eqb (trues flags.now + signaled) size }
 {
-    let t = flagged(flags, count);
-    if size < t {
+    let reused = flagged(flags);
+    if size < reused {
         return false;
     }
-    signaled == size - t
+    signaled == size - reused
 }
 
-// Whether the first n entries fit their depths.
-fn entries_hold(format: u8, luma: u8, chroma: u8, palette: [Color; 64], n: usize) -> bool
-    requires { n ≤ 64 }
-    ensures { result ≡ up_to n (λ i. color_in format luma chroma (get_or palette i no_color)) }
+// Whether the indices are at most m.
+fn indices_hold(indices: &[u8], m: u8) -> bool
+    ensures { result ≡ up_to (length indices.now) (λ i. leb (get_or indices.now i 0) m) }
 {
     let mut ok = true;
-    let mut i: usize = 0;
-    while i < n {
-        let c = palette[i];
-        ok = ok & color_in(format, luma, chroma, c);
-        i += 1;
-    }
-    ok
-}
-
-// The greatest index of a palette of at most 64 entries; 0 also where it is empty.
-fn greatest(size: usize, escape: bool) -> u8
-    requires { size ≤ 64 }
-    ensures { result ≡ size + bit escape - 1 }
-{
-    if escape {
-        return size as u8;
-    }
-    if size == 0 {
-        return 0;
-    }
-    (size - 1) as u8
-}
-
-// Whether the first n indices are at most m.
-fn indices_hold(indices: [u8; 1024], n: usize, m: u8) -> bool
-    requires { n ≤ 1024 }
-    ensures { result ≡ up_to n (λ i. leb (get_or indices i 0) m) }
-{
-    let mut ok = true;
-    let mut i: usize = 0;
-    while i < n {
-        let x = indices[i];
-        ok = ok & (x <= m);
-        i += 1;
+    for x in indices {
+        ok &= *x <= m;
     }
     ok
 }
@@ -119,10 +79,7 @@ fn indices_hold(indices: [u8; 1024], n: usize, m: u8) -> bool
 fn level_cap(lossless: bool, depth: u8) -> u16
     ensures { result ≡ level_cap lossless depth }
 {
-    if lossless {
-        return most_in(depth);
-    }
-    32767
+    if lossless { most_in(depth) } else { 32767 }
 }
 
 // The same of a chroma component: any level where it is not in use.
@@ -130,9 +87,10 @@ fn chroma_cap(lossless: bool, format: u8, depth: u8) -> u16
     ensures { result ≡ chroma_cap lossless format depth }
 {
     if format == 0 {
-        return 65535;
+        u16::MAX
+    } else {
+        level_cap(lossless, depth)
     }
-    level_cap(lossless, depth)
 }
 
 // Whether a cell's levels are in range.
@@ -151,50 +109,41 @@ fn quiet(indices: &[u8; 1024], i: usize, n: usize, p: u8) -> bool
         return false;
     }
     let mut ok = true;
-    let mut j: usize = 0;
-    while j < 16 {
-        let x = indices[i + j];
-        ok = ok & (x != p);
-        j += 1;
+    for x in &indices[i..i + 16] {
+        ok &= *x != p;
     }
     ok
 }
 
-// Whether the levels of each escape cell are in range.
-fn escapes_hold(cu: PaletteCu, n: usize, ym: u16, cm: u16) -> bool
-    requires { (n ≤ 1024) × (ym ≡ luma_cap_of cu) × (cm ≡ chroma_cap_of cu) × (cu.palette_size ≤ 64) }
-    ensures { result ≡ up_to n (escape_holds cu) }
+// Whether the levels of each escape cell among the first n are in range.
+fn escapes_hold(cu: &PaletteCu, n: usize, ym: u16, cm: u16) -> bool
+    requires { (n ≤ 1024) × (ym ≡ luma_cap_of cu.now) × (cm ≡ chroma_cap_of cu.now) × (cu.now.palette_size ≤ 64) }
+    ensures { result ≡ up_to n (escape_holds cu.now) }
 {
-    let x = cu.indices;
     let p = cu.palette_size as u8;
     let mut i: usize = 0;
+    // Stays a while: the step is 16 where no cell of these escapes.
     while i < n {
-        if quiet(&x, i, n, p) {
+        if quiet(&cu.indices, i, n, p) {
             i += 16;
-        } else if cu.indices[i] as usize == cu.palette_size {
-            let l = cu.escapes[i];
-            if within(ym, cm, l) {
-                i += 1;
-            } else {
-                return false;
-            }
-        } else {
+        } else if usize::from(cu.indices[i]) != cu.palette_size || within(ym, cm, cu.escapes[i]) {
             i += 1;
+        } else {
+            return false;
         }
     }
     true
 }
 
 // Whether each index is at most M, and the levels of each escape cell in range.
-fn cells_hold(cu: PaletteCu) -> bool
-    requires { (cu.size ≤ 32) × (cu.palette_size ≤ 64) }
-    ensures { result ≡ up_to (cu.size * cu.size) (cell_holds cu) }
+fn cells_hold(cu: &PaletteCu) -> bool
+    requires { (cu.now.size ≤ 32) × (cu.now.palette_size ≤ 64) }
+    ensures { result ≡ up_to (cu.now.size * cu.now.size) (cell_holds cu.now) }
 {
-    let n = cu.size * cu.size;
-    let m = greatest(cu.palette_size, cu.escape_present);
-    let x = cu.indices;
-    let ok = indices_hold(x, n, m);
-    if cu.palette_size <= m as usize {
+    let n = area(cu.size);
+    let m = greatest_index(cu.palette_size, cu.escape_present);
+    let ok = indices_hold(&cu.indices[..n], m);
+    if cu.palette_size <= usize::from(m) {
         let ym = level_cap(cu.lossless, cu.bd_luma);
         let cm = chroma_cap(cu.lossless, cu.chroma_idc, cu.bd_chroma);
         return ok & escapes_hold(cu, n, ym, cm);
@@ -206,28 +155,29 @@ fn cells_hold(cu: PaletteCu) -> bool
 fn empty_holds(size: usize, escape: bool, transpose: bool) -> bool
     ensures { result ≡ empty_is size escape transpose }
 {
-    if size == 0 {
-        return escape & !transpose;
-    }
-    true
+    size != 0 || escape & !transpose
 }
 
 // The clauses on numbers that every call with a block tests.
-fn frame_holds(
-    limit: usize,
-    size: usize,
-    format: u8,
-    luma: u8,
-    chroma: u8,
-    entries: usize,
-    tolerance: u64,
-) -> bool
-    ensures { result ≡ frame_holds limit size format luma chroma entries tolerance }
+fn frame_holds(limit: usize, cu: &PaletteCu) -> bool
+    ensures { result ≡ frame_holds limit cu.now.size cu.now.chroma_idc cu.now.bd_luma cu.now.bd_chroma cu.now.palette_size cu.now.tolerance }
 {
-    size_holds(format, size)
-        & format_holds(format, luma, chroma)
-        & (entries <= limit)
-        & (tolerance <= 16)
+    size_holds(cu.chroma_idc, cu.size)
+        & format_holds(cu.chroma_idc, cu.bd_luma, cu.bd_chroma)
+        & (cu.palette_size <= limit)
+        & (cu.tolerance <= 16)
+}
+
+// Whether the palette's entries fit their depths.
+fn palette_holds(cu: &PaletteCu) -> bool
+    requires { cu.now.palette_size ≤ 64 }
+    ensures { result ≡ up_to cu.now.palette_size (λ i. color_in cu.now.chroma_idc cu.now.bd_luma cu.now.bd_chroma (get_or cu.now.palette i no_color)) }
+{
+    let mut ok = true;
+    for c in &cu.palette[..cu.palette_size] {
+        ok &= color_in(cu.chroma_idc, cu.bd_luma, cu.bd_chroma, *c);
+    }
+    ok
 }
 
 // The test for refusal 7.
@@ -235,25 +185,15 @@ pub fn holds_together(limit: usize, cu: PaletteCu) -> bool
     requires { limit ≤ 64 }
     ensures { result ≡ holds limit cu }
 {
-    let n = cu.palette_size;
-    let frame = frame_holds(
-        limit,
-        cu.size,
-        cu.chroma_idc,
-        cu.bd_luma,
-        cu.bd_chroma,
-        n,
-        cu.tolerance,
-    );
-    if frame & (cu.pred_size <= 128) {
-        let flags = cu.reused;
-        let palette = cu.palette;
-        return counts_hold(flags, cu.pred_size, cu.num_signaled, n)
-            & entries_hold(cu.chroma_idc, cu.bd_luma, cu.bd_chroma, palette, n)
-            & cells_hold(cu)
-            & empty_holds(n, cu.escape_present, cu.transpose);
+    if frame_holds(limit, &cu) & (cu.pred_size <= 128) {
+        let flags = &cu.reused[..cu.pred_size];
+        counts_hold(flags, cu.num_signaled, cu.palette_size)
+            & palette_holds(&cu)
+            & cells_hold(&cu)
+            & empty_holds(cu.palette_size, cu.escape_present, cu.transpose)
+    } else {
+        false
     }
-    false
 }
 
 // The clauses that assignment tests.
@@ -261,19 +201,9 @@ pub fn assignable(limit: usize, cu: PaletteCu) -> bool
     requires { limit ≤ 64 }
     ensures { result ≡ assignable limit cu }
 {
-    let n = cu.palette_size;
-    let frame = frame_holds(
-        limit,
-        cu.size,
-        cu.chroma_idc,
-        cu.bd_luma,
-        cu.bd_chroma,
-        n,
-        cu.tolerance,
-    );
-    if frame & (1 <= n) {
-        let palette = cu.palette;
-        return entries_hold(cu.chroma_idc, cu.bd_luma, cu.bd_chroma, palette, n);
+    if frame_holds(limit, &cu) & (1 <= cu.palette_size) {
+        palette_holds(&cu)
+    } else {
+        false
     }
-    false
 }

@@ -15,7 +15,6 @@ use Rattle.model.specs.WholeLaws.{whole}
 use Rattle.h265.specs.Reuse.{trues}
 use Rattle.h265.specs.Strings.{bit}
 use Rattle.syntax.specs.Block.{colours, palette_of, map_bins, block_bins}
-use Rattle.syntax.specs.Block as B
 use Rattle.syntax.specs.MapLaws.{CodedOk}
 use Rattle.syntax.proofs.Ready.{ready}
 use Rattle.syntax.specs.Records.{call_of, block_of}
@@ -23,7 +22,7 @@ use Rattle.syntax.specs.Runs.{Run}
 use Rattle.syntax.specs.Test.{replays}
 use Rattle.putescapes.specs.Escapes.{tail_of, levels_are}
 use Rattle.putpalette.specs.Palette.{head_of}
-use Rattle.write.specs.declared.Written.{Written}
+use Rattle.write.specs.Written.{Written}
 use Rattle.write.specs.Write.{bins_of, runs_hold, write_refusal, write_of, list_after}
 
 module _ (cu : PaletteCu) (runs : List Run) (count : ℕ) where

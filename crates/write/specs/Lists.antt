@@ -1,10 +1,9 @@
 -- Lists of numbers that are a block which holds together and enough runs; the answers over them; and that a block laid as such a list is the block.
-use Rattle.std.specs.Prelude.{◌≡◌, refl, true, false, List, [], ◌∷◌, ◌++◌, map, ℕ, suc, ◌+◌, ◌*◌, ◌-◌, ◌≤◌, ◌<◌, eqb, length, take, drop, get_or, set, replicate}
+use Rattle.std.specs.Prelude.{◌≡◌, refl, true, false, List, [], ◌∷◌, ◌++◌, map, ℕ, ◌+◌, ◌*◌, ◌≤◌, ◌<◌, eqb, length, take, drop, get_or, replicate}
 use Rattle.std.proofs.Common.{ap, sym, ◌∙◌, append-nil, arith, length-drop, length-append, drop_of_length-le, take_at, length-take-le, get_or-take, get_or-drop, ext_get_or}
 use Rattle.std.proofs.lemmas.List.{length-replicate, length-map}
 use Rattle.std.proofs.lemmas.List.Edits.{sets, sets-eq}
 use Rattle.base.specs.Cells.{laid-length}
-use Rattle.base.specs.Counted.{read, end}
 use Rattle.base.specs.Laid.{Laid}
 use Rattle.base.specs.Tests.{refusal, both}
 use Rattle.h265.specs.BitLaws.{bit_below}
@@ -17,7 +16,7 @@ use Rattle.model.specs.WholeLaws.{whole}
 use Rattle.putescapes.specs.Cells.{Sized, byte-own}
 use Rattle.putpalette.specs.Palette.{Headed}
 use Rattle.syntax.specs.Runs.{Run}
-use Rattle.write.specs.declared.Written.{Written}
+use Rattle.write.specs.Written.{Written}
 use Rattle.write.specs.Write.{bins_of, runs_hold}
 use Rattle.write.specs.Laws.{fit, Wrote, write_early, write_done}
 
@@ -58,13 +57,13 @@ cells_are b n l e k h =
     let t : i < number b 0 * number b 0 = omega arith in
     get_or-take n (drop 336 b) i 0 j ∙ get_or-drop 336 b i 0 ∙ byte-own (number b (336 + i)) (omega (arith, w.index i t, w.entries, f, bit_below (eqb (number b 8) 1))) ∙ sym (get_or-take n (block_of b).indices i 0 j ∙ f))
 
--- ---- bytes laid one after another
+-- ---- bytes copied
 
-pub lay_next : (l xs : List ℕ) (n i : ℕ) → i < n → n ≤ length xs → sets (set l i (get_or xs i 0)) (i + 1) (drop (i + 1) (take n xs)) ≡ sets l i (drop i (take n xs))
-lay_next l xs n i h k = let e : i + 1 ≡ suc i = omega arith in rw (read xs n i 0 h k, e)
-
-pub lay_end : (l xs : List ℕ) (n i : ℕ) → n ≤ i → n ≤ length xs → sets l i (drop i (take n xs)) ≡ l
-lay_end l xs n i h k = rw (end xs n i h k)
+-- n bytes over the first n of a list
+pub front_copied : (l s m : List ℕ) (n : ℕ) → n ≤ length l → length m ≡ n → m ≡ s → m ++ drop n l ≡ sets l 0 s
+front_copied l s m n h k e =
+    let z : 0 + length s ≡ n = omega (arith, ap length e) in
+    rw e (sym (sets-eq s l 0 (omega arith) ∙ ap (λ (x : ℕ). s ++ drop x l) z))
 
 -- what was laid on a list that has room is its front
 pub front-laid : (l s : List ℕ) → length s ≤ length l → take (length s) (sets l 0 s) ≡ s

@@ -9,7 +9,7 @@ use Rattle.syntax.specs.Block.{block_bins}
 use Rattle.syntax.specs.Records.{call_of, block_of}
 use Rattle.syntax.specs.Runs.{Run}
 use Rattle.syntax.specs.Test.{replays}
-use Rattle.write.specs.declared.Written.{Written}
+use Rattle.write.specs.Written.{Written}
 
 -- the block's bins with a run list, under the palette limit 64
 unfoldable pub bins_of : PaletteCu → List Run → List ℕ

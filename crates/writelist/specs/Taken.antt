@@ -9,7 +9,6 @@ use Rattle.std.proofs.Math.ListN.{length, length-drop, length-take}
 use borrow.Author.Tests.{lt-leb, ltb-false, eqb-true}
 use Rattle.base.specs.Pick.{either, lt_or_le, true_false}
 use Rattle.base.specs.Refusals.{refused_not}
-use Rattle.base.specs.Tests.{refusal}
 use Rattle.h265.specs.Reuse.{trues}
 use Rattle.model.specs.declared.PaletteCu.{PaletteCu}
 use Rattle.model.specs.declared.PaletteRun.{PaletteRun}

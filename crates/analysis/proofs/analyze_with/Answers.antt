@@ -1,26 +1,23 @@
 -- `analysis::analyze_with`: refusals 1 to 4, then the colours fetched.
-use mathlib.Core.Path.{sym, ◌∙◌}
-use Prim.Native.Nat.{ℕ}
-use lib.ListN.{length-replicate}
+use Rattle.std.proofs.Common.{sym, ◌∙◌}
+use Rattle.std.proofs.lemmas.Result.{err_from_is_err_and}
 use Rattle.model.specs.ConfigLaws.{config_bounds}
 use Rattle.model.specs.DomainLaws.{source-bounds}
-use Rattle.source.specs.Laws.{some, fetched}
+use Rattle.source.specs.Laws.{fetched}
+use Rattle.refusal.specs.Laws.{number_some}
 use Rattle.analysis.specs.Laws.{with_source, with_cells_lem}
-use borrow.Author.Rules.{rules}
 use Rattle.analysis.proofs.analyze_with.Goals as goal
 
-pub source_refusal-r-requires : goal.source_refusal-r-requires
-source_refusal-r-requires c = length-replicate {A = ℕ} 1024 0
-
-pub returns-then-r-ne0 : goal.returns-then-r-ne0
-returns-then-r-ne0 c = let s = c.args in
-    c.refused.ensures ∙ with_source s.luma.now s.cb.now s.cr.now s.c s.g s.p s.k s.tol c.source_refusal-r.result c.source_refusal-r.ensures.0 (some c.source_refusal-r.result c.if-r-ne0.true)
+pub returns-in_err-fetch_block : goal.returns-in_err-fetch_block
+returns-in_err-fetch_block c = let s = c.args in
+    let p = err_from_is_err_and c.from_residual.result c.from_residual.ensures.1 in
+    rw (p.1, p.2) (with_source s.luma.now s.cb.now s.cr.now s.c s.g s.p s.counter.now s.tol _ c.in_err-fetch_block.ensures.0 (number_some _))
 
 pub analyze_cells-requires : goal.analyze_cells-requires
 analyze_cells-requires c = let s = c.args in
-    let f = fetched s.luma.now s.cb.now s.cr.now s.c s.g (sym c.source_refusal-r.ensures.0 ∙ c.if-r-ne0.false) in
+    let f = fetched s.luma.now s.cb.now s.cr.now s.c s.g (sym c.in_ok-fetch_block.ensures.0) in
     ((source-bounds s.c.chroma_idc s.g f.readable.source).small, (config_bounds s.c f.readable.config).luma)
 
 pub returns : goal.returns
 returns c = let s = c.args in
-    c.analyze_cells.ensures ∙ with_cells_lem s.luma.now s.cb.now s.cr.now s.c s.g s.p s.k _ (sym c.source_refusal-r.ensures.0 ∙ c.if-r-ne0.false) c.source_refusal-r.ensures.1 s.tol
+    c.analyze_cells.ensures ∙ with_cells_lem s.luma.now s.cb.now s.cr.now s.c s.g s.p s.counter.now _ (sym c.in_ok-fetch_block.ensures.0) c.in_ok-fetch_block.ensures.1 s.tol

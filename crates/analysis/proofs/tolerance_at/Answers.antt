@@ -3,7 +3,6 @@ use mathlib.Core.Path.{◌∙◌}
 use mir.Facts.{to_z-of_z}
 use mir.Syntax.{w32}
 use Rattle.model.specs.ConfigLaws.{config_bounds}
-use borrow.Author.Rules.{rules}
 use Rattle.analysis.proofs.tolerance_at.Goals as goal
 
 pub step-requires : goal.step-requires

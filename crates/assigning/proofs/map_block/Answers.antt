@@ -1,9 +1,9 @@
 -- `assigning::map_block`: indices of the samples in scan order; then levels and figure.
-use mathlib.Core.Path.{◌≡◌, refl, ap, sym, ◌∙◌}
+use mathlib.Core.Path.{◌≡◌, refl, ap, ◌∙◌}
 use Prim.Native.Nat.{ℕ, ◌*◌, ◌≤◌, ◌<◌}
 use native.Mathlib.Omega.{arith}
 use borrow.Author.Tests.{le-leb, lt-leb}
-use lib.ListN.{get_or, length, replicate, length-replicate, length-map}
+use lib.ListN.{get_or, length, replicate, length-replicate}
 use Rattle.base.specs.Cells.{laid_in}
 use Rattle.model.specs.declared.PaletteCu.{PaletteCu}
 use Rattle.levels.specs.Levels.{scale_of}
@@ -11,20 +11,7 @@ use Rattle.figure.specs.Figure.{scan_sample, block_figure}
 use Rattle.figure.specs.Laws.{in_rows}
 use Rattle.assigning.specs.Assigning.{escapes, escapes_in}
 use Rattle.assigning.specs.Laws.{map-refused, map-made, scan_small, escapes-made, mapped-made}
-use borrow.Author.Rules.{rules}
 use Rattle.assigning.proofs.map_block.Goals as goal
-
-pub area-n-requires : goal.area-n-requires
-area-n-requires c = c.requires.c_value.1
-
-pub unroll-requires : goal.unroll-requires
-unroll-requires c = c.requires.c_value.1
-
-pub assign-e-requires : goal.assign-e-requires
-assign-e-requires c = (c.area-n.ensures.1, c.requires.c_value.2, c.requires.c_value.3)
-
-pub overflow_mul-e : goal.overflow_mul-e
-overflow_mul-e c = omega (arith, c.area-n.ensures.1, c.assign-e.ensures.2)
 
 pub returns-then-n-e : goal.returns-then-n-e
 unfolding escapes_in
@@ -44,9 +31,6 @@ with_cells-out-requires c = let s = c.args in
     let n = s.cu.size * s.cu.size in
     (c.requires.c_value.0, c.requires.c_value.1, λ j l. rw (c.unroll.ensures, laid_in (scan_sample t s.cu.size f) (replicate 1024 0) 0 n j 0 (omega arith) (omega arith) (omega (arith, length-replicate {A = ℕ} 1024 0, c.area-n.ensures.0, c.area-n.ensures.1))) (scan_small t s.cu.size s.cells.now c.requires.by_index j l))
 
-pub block_figure-f-requires : goal.block_figure-f-requires
-block_figure-f-requires c = (c.requires.c_value.0, omega (arith, ap (λ (x : PaletteCu). x.size) c.with_cells-out.ensures, c.requires.c_value.1))
-
 pub returns : goal.returns
 unfolding escapes_in
 returns c = let s = c.args in
@@ -60,6 +44,6 @@ returns c = let s = c.args in
     let z : c.with_cells-out.result.size ≡ s.cu.size = ap (λ (x : PaletteCu). x.size) c.with_cells-out.ensures in
     let w : length s.cu.indices ≡ 1024 = c.well_formed.1.1.0.1.1.1.1.1.1.1.1.1.1.1.1.1.1.0.1.0.1 in
     let o : n ≤ length s.cu.indices = omega (arith, c.area-n.ensures.0, c.area-n.ensures.1, w) in
-    map-made s.c t s.cu c.with_cells-out.result f c.block_figure-f.result (le-leb (escapes t s.cu f * 4) n (omega (arith, e, c.area-n.ensures.0, c.if-n-e.false)))
+    map-made s.c t s.cu c.with_cells-out.result f c.block_figure.result (le-leb (escapes t s.cu f * 4) n (omega (arith, e, c.area-n.ensures.0, c.if-n-e.false)))
     (mapped-made s.c t s.cu f c.unroll.new.out c.pack_palette-palette.result c.pack_palette-palette.ensures.0 h c.assign-e.result _ _ c.with_cells-out.result o c.with_cells-out.ensures x (rw c.area-n.ensures.0 at c.assign-e.ensures.1) refl)
-    (c.block_figure-f.ensures ∙ ap (λ (k : ℕ). block_figure (scale_of s.c) c.with_cells-out.result (in_rows k s.cells.now)) z)
+    (c.block_figure.ensures ∙ ap (λ (k : ℕ). block_figure (scale_of s.c) c.with_cells-out.result (in_rows k s.cells.now)) z)

@@ -1,18 +1,7 @@
--- `bins::flog`: by the zeros above the highest one.
-use Prim.Native.Nat.{ℕ, ◌+◌, ◌-◌, ◌≤◌, ◌<◌}
-use native.Mathlib.Omega.{arith}
-use mathlib.Core.Path.{◌≡◌, refl}
-use Rattle.h265.specs.Strings.{flog, flog_aux}
-use Rattle.bins.specs.Logarithm.{flog_leading}
-use borrow.Author.Rules.{rules}
+-- `bins::flog`: std's logarithm is the definition's.
+use Rattle.std.proofs.Common.{◌∙◌}
+use Rattle.bins.specs.Logarithm.{flog_logarithm}
 use Rattle.bins.proofs.flog.Goals as goal
 
-pub returns-then-n-eq0 : goal.returns-then-n-eq0
-unfolding flog flog_aux
-returns-then-n-eq0 c = rw c.if-n-eq0.true
-
-pub overflow_sub-result : goal.overflow_sub-result
-overflow_sub-result c = omega (arith, flog_leading 32 c.args.n (omega arith) (omega arith))
-
 pub returns : goal.returns
-returns c = omega (arith, flog_leading 32 c.args.n (omega arith) (omega arith))
+returns c = let e = c.checked_ilog2.ensures in c.unwrap_or.ensures ∙ flog_logarithm c.args.n c.checked_ilog2.result e.none e.power_le e.next_power_gt

@@ -1,22 +1,20 @@
-use mathlib.Core.Path.{◌≡◌, refl, sym, ap, ◌∙◌}
-use mathlib.Core.Bool.{Bool, true, false}
-use Prim.Native.Nat.{ℕ, suc, ◌+◌, ◌-◌, ◌*◌, ◌≤◌, ◌<◌}
+use mathlib.Core.Path.{ap, ◌∙◌}
+use Prim.Native.Nat.{ℕ, ◌*◌, ◌≤◌}
 use native.Mathlib.Omega.{arith}
-use lib.ListN.{get_or, length, replicate, length-replicate}
+use lib.ListN.{length-replicate}
 use native.Mathlib.Nat.{mul-le-mul}
 use Rattle.finish.specs.Found.{found_of}
-use borrow.Author.Rules.{rules}
 use Rattle.cheapest.proofs.plan_cells.Goals as goal
 
-pub chart-e-requires : goal.chart-e-requires
-chart-e-requires c = (c.requires.0, c.requires.1, c.requires.2, length-replicate {A = ℕ} 1024 0, refl, refl)
+pub chart-requires : goal.chart-requires
+chart-requires c = (c.requires.0, c.requires.1, c.requires.2, length-replicate {A = ℕ} 1024 0)
 
 pub overflow_mul-size : goal.overflow_mul-size
 overflow_mul-size c = let h : c.args.size * c.args.size ≤ 32 * 32 = mul-le-mul c.requires.0 c.requires.0 in omega arith
 
 pub finish-requires : goal.finish-requires
 finish-requires c = let h : c.args.size * c.args.size ≤ 32 * 32 = mul-le-mul c.requires.0 c.requires.0 in
-    (omega arith, c.chart-e.ensures.falls)
+    (omega arith, c.chart.ensures.falls)
 
 pub returns : goal.returns
-returns c = c.finish.ensures ∙ ap found_of c.chart-e.ensures.path
+returns c = c.finish.ensures ∙ ap found_of c.chart.ensures.path

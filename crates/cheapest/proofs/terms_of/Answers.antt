@@ -1,6 +1,4 @@
-use mathlib.Core.Path.{◌≡◌, refl, sym, ap, ◌∙◌}
 use native.Mathlib.Omega.{arith}
-use borrow.Author.Rules.{rules}
 use Rattle.cheapest.proofs.terms_of.Goals as goal
 
 pub share_bits-requires : goal.share_bits-requires

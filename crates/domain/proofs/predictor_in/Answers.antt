@@ -1,31 +1,18 @@
-use mathlib.Core.Path.{◌≡◌, ◌∙◌, sym}
-use Prim.Native.Nat.{◌≤◌, ◌-◌}
-use native.Mathlib.Omega.{arith}
-use borrow.Author.Tests.{le-leb, lt-leb}
-use lib.ListN.{get_or}
-use Rattle.base.specs.Tests.{up_to, up_to-none, up_to-next, and_pick, pick_test}
+-- `domain::predictor_in`: one entry more, and all of them.
+use Rattle.std.proofs.Common.{sym, ◌∙◌, arith, le-leb}
+use Rattle.base.specs.Tests.{up_to-none, pick_test}
 use Rattle.model.specs.Domain.{predictor_in, color_in, no_color}
-use borrow.Author.Rules.{rules}
+use Rattle.domain.specs.Taken.{and_next, all_taken}
 use Rattle.domain.proofs.predictor_in.Goals as goal
 
-pub returns-then-p-gt128 : goal.returns-then-p-gt128
-unfolding predictor_in
-returns-then-p-gt128 c = rw (lt-leb _ _ c.if-p-gt128.true)
+pub loop-c-init : goal.loop-c-init
+loop-c-init c = sym (up_to-none _)
 
-pub loop-i-init : goal.loop-i-init
-loop-i-init c = (omega arith, sym (up_to-none _))
-
-pub overflow_add-i : goal.overflow_add-i
-overflow_add-i c = omega arith
-
-pub loop-i-smaller : goal.loop-i-smaller
-loop-i-smaller c = omega arith
-
-pub loop-i-preserved : goal.loop-i-preserved
-loop-i-preserved c = let l = c.loop-i in
-    (omega arith, and_pick l.ok c.color_in-ok.result ∙ rw (l.invariant.1, c.color_in-ok.ensures) (sym (up_to-next _ l.i)))
+pub loop-c-preserved : goal.loop-c-preserved
+loop-c-preserved c = and_next _ c.loop-c.c-index c.loop-c.ok c.color_in-ok.result c.loop-c.invariant c.color_in-ok.ensures
 
 pub returns : goal.returns
 unfolding predictor_in
-returns c = let e : c.loop-i.i ≡ c.args.p.size = omega arith in
-    rw (le-leb _ _ c.if-p-gt128.false) (c.loop-i.invariant.1 ∙ rw e (sym (pick_test _)))
+returns c = let p = c.args.p in
+    let e = all_taken (color_in c.args.format c.args.luma c.args.chroma) no_color p.entries p.size c.loop-c.c-index (omega arith) (omega arith) (omega arith) in
+    rw (le-leb _ _ c.if-p-gt128.false) (c.loop-c.invariant ∙ e ∙ sym (pick_test _))

@@ -3,7 +3,6 @@ use mathlib.Core.Path.{refl, ◌∙◌}
 use Rattle.flat.specs.Flat.{source_of}
 use Rattle.flatchoose.specs.Choose.{Lent}
 use Rattle.exports_analysis.proofs.CallLaws.{palette_out}
-use borrow.Author.Rules.{rules}
 use Rattle.exports_analysis.proofs.velomitra_analyze_palette.Goals as goal
 
 pub returns : goal.returns

@@ -1,13 +1,14 @@
--- `exports_get::velomitra_reuse_at`: the leaf's flags and number within its domain.
-use borrow.Author.Tests.{lt-ltb, le-ltb}
-use Rattle.exports_get.specs.Laid.{reuse_out, flags_out}
-use borrow.Author.Rules.{rules}
+-- `exports_get::velomitra_reuse_at`: a refusal has no flag on.
+use Rattle.std.proofs.Common.{ap, ◌≤◌, arith, length, false, le-ltb}
+use Rattle.std.proofs.lemmas.List.{take-replicate}
+use Rattle.getreuse.specs.Read.{ReuseRead}
+use Rattle.exports_get.specs.Laid.{flags_out}
 use Rattle.exports_get.proofs.velomitra_reuse_at.Goals as goal
 
-pub returns-then-flags-gt128 : goal.returns-then-flags-gt128
-unfolding reuse_out flags_out
-returns-then-flags-gt128 c = record { flags = rw (lt-ltb _ _ c.if-flags-gt128.true); laid = rw (lt-ltb _ _ c.if-flags-gt128.true) }
-
-pub returns : goal.returns
-unfolding reuse_out flags_out
-returns c = record { flags = rw (le-ltb _ _ c.if-flags-gt128.false, ← c.reuse_at-r.ensures) c.lay_flags.ensures; laid = rw (le-ltb _ _ c.if-flags-gt128.false, ← c.reuse_at-r.ensures) c.lay_number.ensures }
+pub returns-in-Err-clause-flags : goal.returns-in-Err-clause-flags
+unfolding flags_out
+returns-in-Err-clause-flags c =
+    let v = ap (λ (x : ReuseRead). x.flags) c.in-Err.ensures.value in
+    let h : length c.args.flags.now ≤ 128 = omega arith in
+    let t = take-replicate (length c.args.flags.now) 128 false h in
+    rw (le-ltb _ _ c.if-count-gt128.false, ← v, t) (c.fill.ensures.after (λ y e. e))

@@ -1,44 +1,15 @@
 -- `exports_plan::cells_of`. The loop's invariant: the places passed are laid.
-use mathlib.Core.Path.{◌≡◌, sym, ap, ◌∙◌}
-use Prim.Native.Nat.{ℕ, ◌+◌, ◌*◌, ◌-◌, ◌≤◌}
-use native.Mathlib.Omega.{arith}
-use lib.ListN.{length, replicate, length-set, length-replicate}
-use Rattle.base.specs.Cells.{laid, laid_none, laid_on_lem, laid_done}
+use Rattle.std.proofs.Common.{sym, ℕ, ◌+◌, replicate, arith}
+use Rattle.base.specs.Cells.{laid_none, laid_on_lem, laid_done}
 use Rattle.flat.specs.Flat.{number, byte, block_of}
-use borrow.Author.Rules.{rules}
 use Rattle.exports_plan.proofs.cells_of.Goals as goal
 
 pub loop-i-init : goal.loop-i-init
-loop-i-init c = (omega arith, length-replicate {A = ℕ} 1024 0, sym (laid_none _ _ _))
-
-pub overflow_add-i : goal.overflow_add-i
-overflow_add-i c = omega arith
-
-pub offset_bounds-block-i : goal.offset_bounds-block-i
-offset_bounds-block-i c = omega arith
-
-pub bounds-block-i : goal.bounds-block-i
-bounds-block-i c = omega arith
-
-pub byte-requires : goal.byte-requires
-byte-requires c = omega arith
-
-pub bounds-out-i : goal.bounds-out-i
-bounds-out-i c = omega arith
-
-pub overflow_add-i-in-loop-i : goal.overflow_add-i-in-loop-i
-overflow_add-i-in-loop-i c = omega arith
-
-pub loop-i-smaller : goal.loop-i-smaller
-loop-i-smaller c = omega arith
+loop-i-init c = sym (laid_none _ _ _)
 
 pub loop-i-preserved : goal.loop-i-preserved
-loop-i-preserved c = let l = c.loop-i in (
-  omega arith,
-  length-set l.out l.i _ ∙ l.invariant.1,
-  laid_on_lem (λ (j : ℕ). byte (number c.args.block.now (336 + j))) (replicate 1024 0) l.out l.i _ l.invariant.2 c.byte.ensures,
-)
+loop-i-preserved c = laid_on_lem (λ (j : ℕ). byte (number c.args.block.now (336 + j))) (replicate 1024 0) c.loop-i.cell-items c.loop-i.i _ c.loop-i.invariant c.min.ensures
 
 pub returns : goal.returns
 unfolding block_of
-returns c = laid_done _ _ _ _ _ _ c.loop-i.invariant.2 (omega arith)
+returns c = laid_done _ _ _ _ _ _ c.loop-i.invariant (omega arith)

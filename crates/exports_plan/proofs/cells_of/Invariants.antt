@@ -1,15 +1,8 @@
 -- `exports_plan::cells_of`. The loop's invariant: the places passed are laid.
-use mathlib.Core.Path.{◌≡◌, sym, ap, ◌∙◌}
-use Prim.Native.Nat.{ℕ, ◌+◌, ◌*◌, ◌-◌, ◌≤◌}
-use native.Mathlib.Omega.{arith}
-use lib.ListN.{length, replicate, length-set, length-replicate}
-use Rattle.base.specs.Cells.{laid, laid_none, laid_on_lem, laid_done}
-use Rattle.flat.specs.Flat.{number, byte, block_of}
-use borrow.Author.Rules.{rules}
+use Rattle.std.proofs.Common.{◌≡◌, ℕ, ◌+◌}
+use Rattle.base.specs.Cells.{laid}
+use Rattle.flat.specs.Flat.{number, byte}
 use Rattle.exports_plan.proofs.cells_of.Given as goal
 
 abbrev pub invariant-loop-i : goal.invariant-loop-i
-invariant-loop-i l = (l.i ≤ 1024) × (length l.out ≡ 1024) × (l.out ≡ laid (λ (j : ℕ). byte (number l.block (336 + j))) l.initial.out 0 l.i)
-
-abbrev pub decreases-loop-i : goal.decreases-loop-i
-decreases-loop-i l = 1024 - l.i
+invariant-loop-i l = l.cell-items ≡ laid (λ (j : ℕ). byte (number l.block (336 + j))) l.initial.cell-items 0 l.i

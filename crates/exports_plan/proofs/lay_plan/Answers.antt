@@ -1,20 +1,13 @@
--- `exports_plan::lay_plan`: by the answer's three cases.
-use mathlib.Core.Path.{◌≡◌, refl, ap, sym, ◌∙◌}
-use mathlib.Core.List.{List}
-use Prim.Native.Nat.{ℕ}
-use lib.Ieee.{Float}
+-- `exports_plan::lay_plan`: nothing, or runs.
+use Rattle.std.proofs.Common.{ap, List, ℕ}
+use Rattle.std.specs.Prelude.{Float}
 use Rattle.exports_plan.specs.Calls.{plan_laid}
-use borrow.Author.Rules.{rules}
 use Rattle.exports_plan.proofs.lay_plan.Goals as goal
 
-pub returns-in-Nothing : goal.returns-in-Nothing
+pub returns-in-None : goal.returns-in-None
 unfolding plan_laid
-returns-in-Nothing c = rw c.in-Nothing.is (ap (λ (z : ℕ × List ℕ × List Float). (z.0, record { runs = c.args.runs.now; count = z.1; total = z.2 })) c.lay_nothing.ensures)
+returns-in-None c = rw c.in-None.is (ap (λ (z : ℕ × List ℕ × List Float). (z.0, record { runs = c.args.runs.now; count = z.1; total = z.2 })) c.lay_nothing.ensures)
 
-pub returns-in-Runs : goal.returns-in-Runs
+pub returns-in-Some : goal.returns-in-Some
 unfolding plan_laid
-returns-in-Runs c = rw c.in-Runs.is c.lay_planned.ensures
-
-pub returns-in-Refused : goal.returns-in-Refused
-unfolding plan_laid
-returns-in-Refused c = rw c.in-Refused.is
+returns-in-Some c = rw c.in-Some.is c.lay_planned.ensures

@@ -1,6 +1,5 @@
 -- `exports_update::velomitra_update`: the renewed predictor where the call is in order, else the answer by way of the records.
 use Rattle.exports_update.specs.CallLaws.{update_quick}
-use borrow.Author.Rules.{rules}
 use Rattle.exports_update.proofs.velomitra_update.Goals as goal
 
 pub renew-requires : goal.renew-requires

@@ -1,5 +1,4 @@
 -- `exports_write::written`: the same from the lists and by way of the records.
-use borrow.Author.Rules.{rules}
 use Rattle.exports_write.proofs.written.Goals as goal
 
 pub returns-then-count-gt1024 : goal.returns-then-count-gt1024

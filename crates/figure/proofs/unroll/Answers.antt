@@ -1,29 +1,21 @@
--- `figure::unroll`. The loop's invariant: the rows passed are laid, and a is where the next one starts.
-use mathlib.Core.Path.{◌≡◌, sym, ◌∙◌}
-use Prim.Native.Nat.{◌+◌, ◌-◌, ◌*◌, ◌≤◌, ◌<◌}
-use native.Mathlib.Nat.{suc-mul}
-use native.Mathlib.Omega.{arith}
-use Rattle.base.specs.Cells.{laid, laid_none, laid-row, laid_done, row_small}
+-- `figure::unroll`: one row more, and all of them.
+use Rattle.std.proofs.Common.{◌≡◌, ◌+◌, ◌*◌, ◌<◌, refl, sym, arith}
+use Rattle.std.proofs.Math.Nat.{suc-mul}
+use Rattle.base.specs.Cells.{laid_none, laid-row, row_small}
+use Rattle.samples.specs.Rows.{row_laid}
 use Rattle.figure.specs.Figure.{scan_sample}
 use Rattle.figure.specs.Laws.{in_rows}
-use borrow.Author.Rules.{rules}
 use Rattle.figure.proofs.unroll.Goals as goal
 
 pub loop-row-init : goal.loop-row-init
-loop-row-init c = (omega arith, omega arith, sym (laid_none _ _ _))
-
-pub overflow_add-a : goal.overflow_add-a
-overflow_add-a c = let h : c.loop-row.row < c.args.size = omega arith in
-    omega (arith, row_small c.loop-row.row c.args.size h c.requires)
+loop-row-init c = let z : 0 * c.args.size ≡ 0 = omega arith in rw z (sym (laid_none _ _ _))
 
 pub loop-row-preserved : goal.loop-row-preserved
 loop-row-preserved c = let l = c.loop-row in
     let s = c.args in
-    let e = c.unroll_row.ensures in (
-      omega arith,
-      omega (arith, suc-mul l.row s.size),
-      laid-row (scan_sample s.transpose s.size (in_rows s.size s.cells.now)) s.out.now l.out c.unroll_row.new.out l.a s.size l.invariant.2 e,
-    )
-
-pub returns : goal.returns
-returns c = let e : c.loop-row.row ≡ c.args.size = omega arith in laid_done _ _ _ _ _ _ c.loop-row.invariant.2 (c.loop-row.invariant.1 ∙ rw e)
+    let a = l.row * s.size in
+    let f = scan_sample s.transpose s.size (in_rows s.size s.cells.now) in
+    let h : l.row < s.size = omega arith in
+    let n = row_small l.row s.size h c.requires in
+    let z : (l.row + 1) * s.size ≡ a + s.size = omega (arith, suc-mul l.row s.size) in
+    rw z (laid-row f s.out.now l.out _ a s.size l.invariant (row_laid (λ x. f (a + x)) f l.out c.unroll_row.new.out a s.size (omega arith) (λ j. refl) c.unroll_row.ensures))

@@ -1,16 +1,9 @@
--- `figure::unroll_row`. The loop's invariant: the places passed are laid.
-use mathlib.Core.Path.{◌≡◌, sym, ◌∙◌}
-use Prim.Native.Nat.{◌+◌, ◌-◌, ◌≤◌}
-use native.Mathlib.Omega.{arith}
-use lib.ListN.{get_or}
-use Rattle.base.specs.Cells.{laid, laid_none, laid-step, laid_done, row_small}
+-- `figure::unroll_row`: the places passed are laid.
+use Rattle.std.proofs.Common.{◌≡◌, ◌+◌, ◌*◌}
+use Rattle.base.specs.Cells.{laid}
 use Rattle.figure.specs.Figure.{scan_sample}
-use Rattle.figure.specs.Laws.{in_rows, scan_place}
-use borrow.Author.Rules.{rules}
+use Rattle.figure.specs.Laws.{in_rows}
 use Rattle.figure.proofs.unroll_row.Given as goal
 
 abbrev pub invariant-loop-x : goal.invariant-loop-x
-invariant-loop-x l = (l.x ≤ l.size) × (l.out ≡ laid (scan_sample l.transpose l.size (in_rows l.size l.cells)) l.initial.out l.a l.x)
-
-abbrev pub decreases-loop-x : goal.decreases-loop-x
-decreases-loop-x l = l.size - l.x
+invariant-loop-x l = l.out ≡ laid (λ x. scan_sample l.transpose l.size (in_rows l.size l.cells) (l.row * l.size + x)) l.fn.out 0 l.x

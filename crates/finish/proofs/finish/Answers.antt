@@ -1,12 +1,8 @@
-use mathlib.Core.Path.{◌≡◌, refl, sym, ap, ◌∙◌}
-use mathlib.Core.Bool.{Bool, true, false}
-use Prim.Native.Nat.{ℕ, suc, ◌+◌, ◌-◌, ◌*◌, ◌/◌, ◌%◌, ◌≤◌, ◌<◌}
 use native.Mathlib.Omega.{arith}
-use lib.ListN.{get_or, length, replicate, length-replicate}
+use lib.ListN.{length-replicate}
 use native.Mathlib.Nat.{le_refl}
 use Rattle.walk.specs.PointLaws.{points_laid, trail_rising}
 use Rattle.finish.specs.FoundLaws.{found-is}
-use borrow.Author.Rules.{rules}
 use Rattle.finish.proofs.finish.Goals as goal
 
 pub lay-count-requires : goal.lay-count-requires

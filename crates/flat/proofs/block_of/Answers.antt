@@ -2,8 +2,7 @@
 use mathlib.Core.Path.{ap, ◌∙◌}
 use Rattle.flat.specs.Flat.{block_of}
 use Rattle.flat.specs.FlatLaws.{filled_block}
-use borrow.Author.Rules.{rules}
 use Rattle.flat.proofs.block_of.Goals as goal
 
 pub returns : goal.returns
-returns c = c.whole_block-2.ensures ∙ ap block_of c.padded-all.ensures ∙ filled_block c.args.list.now
+returns c = c.whole_block-2.ensures ∙ ap block_of c.padded.ensures ∙ filled_block c.args.list.now

@@ -1,42 +1,13 @@
 -- `flat::flags_of`. The loop's invariant: the places passed are laid.
-use mathlib.Core.Path.{◌≡◌, refl, sym, ap, ◌∙◌}
-use Prim.Native.Nat.{ℕ, ◌+◌, ◌*◌, ◌-◌, ◌≤◌}
-use native.Mathlib.Omega.{arith}
-use lib.ListN.{length, replicate, length-set, length-replicate}
-use Rattle.base.specs.Cells.{laid, laid_none, laid_on_lem, laid_done}
-use mathlib.Core.Bool.{false}
-use lib.Dec.{eqb}
+use Rattle.std.proofs.Common.{ℕ, ◌+◌, sym, refl, replicate}
+use Rattle.base.specs.Cells.{laid_none, laid_on_lem}
 use Rattle.flat.specs.Flat.{number}
-use borrow.Author.Rules.{rules}
+use lib.Dec.{eqb}
+use mathlib.Core.Bool.{false}
 use Rattle.flat.proofs.flags_of.Goals as goal
 
 pub loop-i-init : goal.loop-i-init
-loop-i-init c = (omega arith, length-replicate 128 false, sym (laid_none _ _ _))
-
-pub overflow_add-out : goal.overflow_add-out
-overflow_add-out c = omega arith
-
-pub offset_bounds-list-i : goal.offset_bounds-list-i
-offset_bounds-list-i c = omega arith
-
-pub bounds-list-i : goal.bounds-list-i
-bounds-list-i c = omega arith
-
-pub bounds-out-i : goal.bounds-out-i
-bounds-out-i c = omega arith
-
-pub overflow_add-i : goal.overflow_add-i
-overflow_add-i c = omega arith
-
-pub loop-i-smaller : goal.loop-i-smaller
-loop-i-smaller c = omega arith
+loop-i-init c = sym (laid_none _ _ _)
 
 pub loop-i-preserved : goal.loop-i-preserved
-loop-i-preserved c = let l = c.loop-i in (
-  omega arith,
-  length-set l.out l.i _ ∙ l.invariant.1,
-  laid_on_lem (λ (j : ℕ). eqb (number c.args.list.now (208 + j)) 1) (replicate 128 false) l.out l.i _ l.invariant.2 refl,
-)
-
-pub returns : goal.returns
-returns c = laid_done _ _ _ _ _ _ c.loop-i.invariant.2 (omega arith)
+loop-i-preserved c = laid_on_lem (λ (j : ℕ). eqb (number c.args.list.now (208 + j)) 1) (replicate 128 false) _ _ _ c.loop-i.invariant refl

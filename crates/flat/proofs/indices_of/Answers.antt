@@ -1,43 +1,14 @@
 -- `flat::indices_of`. The loop's invariant: the places passed are laid.
-use mathlib.Core.Path.{◌≡◌, sym, ap, ◌∙◌}
-use Prim.Native.Nat.{ℕ, ◌+◌, ◌*◌, ◌-◌, ◌≤◌}
-use native.Mathlib.Omega.{arith}
-use lib.ListN.{length, replicate, length-set, length-replicate}
-use Rattle.base.specs.Cells.{laid, laid_none, laid_on_lem, laid_done}
+use Rattle.std.proofs.Common.{arith, ℕ, ◌+◌, sym, replicate}
+use Rattle.base.specs.Cells.{laid_none, laid_on_lem, laid_done}
 use Rattle.flat.specs.Flat.{number, byte}
-use borrow.Author.Rules.{rules}
 use Rattle.flat.proofs.indices_of.Goals as goal
 
 pub loop-i-init : goal.loop-i-init
-loop-i-init c = (omega arith, length-replicate {A = ℕ} 1024 0, sym (laid_none _ _ _))
-
-pub overflow_add-i : goal.overflow_add-i
-overflow_add-i c = omega arith
-
-pub offset_bounds-list-i : goal.offset_bounds-list-i
-offset_bounds-list-i c = omega arith
-
-pub bounds-list-i : goal.bounds-list-i
-bounds-list-i c = omega arith
-
-pub byte-requires : goal.byte-requires
-byte-requires c = omega arith
-
-pub bounds-out-i : goal.bounds-out-i
-bounds-out-i c = omega arith
-
-pub overflow_add-i-in-loop-i : goal.overflow_add-i-in-loop-i
-overflow_add-i-in-loop-i c = omega arith
-
-pub loop-i-smaller : goal.loop-i-smaller
-loop-i-smaller c = omega arith
+loop-i-init c = sym (laid_none _ _ _)
 
 pub loop-i-preserved : goal.loop-i-preserved
-loop-i-preserved c = let l = c.loop-i in (
-  omega arith,
-  length-set l.out l.i _ ∙ l.invariant.1,
-  laid_on_lem (λ (j : ℕ). byte (number c.args.list.now (336 + j))) (replicate 1024 0) l.out l.i _ l.invariant.2 c.byte.ensures,
-)
+loop-i-preserved c = laid_on_lem (λ (j : ℕ). byte (number c.args.list.now (336 + j))) (replicate 1024 0) _ _ _ c.loop-i.invariant c.byte.ensures
 
 pub returns : goal.returns
-returns c = laid_done _ _ _ _ _ _ c.loop-i.invariant.2 (omega arith)
+returns c = laid_done _ _ _ _ _ _ c.loop-i.invariant (omega arith)

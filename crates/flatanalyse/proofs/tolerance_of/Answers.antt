@@ -1,6 +1,5 @@
 -- `flatanalyse::tolerance_of`: asked of a configuration in the domain alone.
 use mathlib.Core.Path.{sym, ◌∙◌}
-use borrow.Author.Rules.{rules}
 use Rattle.flatanalyse.proofs.tolerance_of.Goals as goal
 
 pub tolerance_at-requires : goal.tolerance_at-requires
@@ -9,5 +8,5 @@ tolerance_at-requires c = sym c.config_in.ensures ∙ c.if-config_in.true
 pub returns-then-config_in : goal.returns-then-config_in
 returns-then-config_in c = rw (sym c.config_in.ensures ∙ c.if-config_in.true) c.tolerance_at.ensures
 
-pub returns : goal.returns
-returns c = rw (sym c.config_in.ensures ∙ c.if-config_in.false)
+pub returns-else-config_in : goal.returns-else-config_in
+returns-else-config_in c = rw (sym c.config_in.ensures ∙ c.if-config_in.false)

@@ -1,10 +1,8 @@
 -- `flatcounter::lay_marks`: the generation, then the stamps.
-use mathlib.Core.Path.{◌≡◌, sym, ◌∙◌}
+use mathlib.Core.Path.{sym}
 use native.Mathlib.Omega.{arith}
 use mathlib.Core.List.{◌∷◌}
-use lib.ListN.{length-set}
 use Rattle.flatcounter.specs.CounterLaws.{past_end}
-use borrow.Author.Rules.{rules}
 use Rattle.flatcounter.proofs.lay_marks.Goals as goal
 
 pub returns-then-list-eq0 : goal.returns-then-list-eq0

@@ -1,36 +1,16 @@
 -- `flatmade::lay_front`. The loop's invariant: what is left makes the whole.
-use mathlib.Core.Path.{◌≡◌, refl, ap, sym, ◌∙◌}
-use Prim.Native.Nat.{ℕ, ◌-◌, ◌≤◌, min}
+use mathlib.Core.Path.{refl, ◌∙◌}
+use Prim.Native.Nat.{min}
 use native.Mathlib.Omega.{arith}
-use lib.ListN.{length, drop, length-set}
-use lib.Seq.{sets}
+use lib.ListN.{length, length-set}
 use Rattle.flatmade.specs.FrontLaws.{front-next, front-end}
-use borrow.Author.Rules.{rules}
 use Rattle.flatmade.proofs.lay_front.Goals as goal
 
 pub loop-i-init : goal.loop-i-init
-loop-i-init c = (omega arith, refl, refl)
-
-pub offset_bounds-xs-i : goal.offset_bounds-xs-i
-offset_bounds-xs-i c = omega (arith, c.least-n.ensures)
-
-pub bounds-xs-i : goal.bounds-xs-i
-bounds-xs-i c = omega (arith, c.least-n.ensures)
-
-pub offset_bounds-list-i : goal.offset_bounds-list-i
-offset_bounds-list-i c = omega (arith, c.least-n.ensures)
-
-pub bounds-list-i : goal.bounds-list-i
-bounds-list-i c = omega (arith, c.least-n.ensures)
-
-pub overflow_add-i : goal.overflow_add-i
-overflow_add-i c = omega (arith, c.least-n.ensures)
-
-pub loop-i-smaller : goal.loop-i-smaller
-loop-i-smaller c = omega (arith, c.least-n.ensures)
+loop-i-init c = (refl, refl)
 
 pub loop-i-preserved : goal.loop-i-preserved
-loop-i-preserved c = let l = c.loop-i in (omega arith, length-set l.list l.i _ ∙ l.invariant.1, front-next l.list c.args.xs.now l.i (omega (arith, c.least-n.ensures, c.requires)) ∙ l.invariant.2)
+loop-i-preserved c = let l = c.loop-i in (length-set l.list l.i _ ∙ l.invariant.0, front-next l.list c.args.xs.now l.i (omega (arith, c.min-i-end.ensures, c.requires)) ∙ l.invariant.1)
 
 pub returns : goal.returns
-returns c = let l = c.loop-i in front-end l.list _ c.args.xs.now l.i _ c.requires (c.least-n.ensures ∙ ap (λ (m : ℕ). min 336 m) (sym l.invariant.1)) (omega arith) l.invariant.2
+returns c = let l = c.loop-i in front-end l.list _ c.args.xs.now l.i (min 336 (length l.list)) c.requires refl (omega (arith, c.min-i-end.ensures, l.invariant.0)) l.invariant.1

@@ -1,5 +1,5 @@
 -- `flatmade::lay_made`: the front, then zeros.
-use mathlib.Core.Path.{◌≡◌, ◌∙◌}
+use mathlib.Core.Path.{◌≡◌}
 use lib.ListN.{length}
 use Rattle.flatmade.specs.FrontLaws.{block_laid}
 use borrow.Author.Rules.{rules}

@@ -1,8 +1,7 @@
 -- `flatplan::model_of`: the run type's rates and the prefix's.
 use Rattle.flatplan.specs.Flat.{model_of}
-use borrow.Author.Rules.{rules}
 use Rattle.flatplan.proofs.model_of.Goals as goal
 
 pub returns : goal.returns
 unfolding model_of
-returns c = rw (c.pair_at-run_type.ensures, c.prefix_of-run_prefix.ensures)
+returns c = rw (c.pair_at.ensures, c.prefix_of.ensures)

@@ -1,8 +1,7 @@
 -- `flatplan::pair_at`: one rate after the other.
 use Rattle.flatplan.specs.Flat.{pair_at}
-use borrow.Author.Rules.{rules}
 use Rattle.flatplan.proofs.pair_at.Goals as goal
 
 pub returns : goal.returns
 unfolding pair_at
-returns c = rw (c.rate_at-bin0.ensures, c.rate_at-bin1.ensures)
+returns c = rw (c.rate_at.ensures, c.rate_at-2.ensures)

@@ -1,42 +1,27 @@
 -- `flatplan::put_runs`. The loop's invariant: what is left makes the whole.
-use mathlib.Core.Path.{◌≡◌, refl, ◌∙◌}
-use mathlib.Core.List.{List}
-use Prim.Native.Nat.{ℕ, ◌+◌, ◌*◌, ◌-◌, ◌≤◌}
-use native.Mathlib.Omega.{arith}
-use lib.ListN.{length, take, drop}
-use Rattle.base.specs.Laid.{Left, left-start, left-turn, left_end}
-use Rattle.flatplan.specs.Flat.{flat_runs}
-use Rattle.flatplan.specs.Rest.{runs-next, runs-end}
-use borrow.Author.Rules.{rules}
+use Rattle.std.proofs.Common.{◌≡◌, ap, [], ◌∷◌, ℕ, ◌+◌, ◌<◌, ◌≤◌, List, length, drop, get_or, add-one, drop-cons, drop_of_length-le, arith}
+use Rattle.base.specs.Laid.{left-turn, left_end}
+use Rattle.h265.specs.Strings.{bit}
+use Rattle.model.specs.declared.PaletteRun.{PaletteRun}
+use Rattle.flatplan.specs.Flat.{flat_runs, no_run}
 use Rattle.flatplan.proofs.put_runs.Goals as goal
 
-pub loop-i-init : goal.loop-i-init
-loop-i-init c = (omega arith, omega arith, refl, left-start _ _ _)
+next_run : (rs : List PaletteRun) (i : ℕ) → i < length rs
+    → flat_runs (drop i rs) ≡ bit (get_or rs i no_run).above ∷ (get_or rs i no_run).sent ∷ (get_or rs i no_run).more ∷ (get_or rs i no_run).start ∷ flat_runs (drop (i + 1) rs)
+unfolding flat_runs
+next_run rs i h = rw (add-one i, drop-cons rs i no_run h)
 
-pub offset_bounds-runs-i : goal.offset_bounds-runs-i
-offset_bounds-runs-i c = omega arith
+none_left : (rs : List PaletteRun) (i : ℕ) → length rs ≤ i → flat_runs (drop i rs) ≡ []
+unfolding flat_runs
+none_left rs i h = ap flat_runs (drop_of_length-le rs {i = i} h)
 
-pub bounds-runs-i : goal.bounds-runs-i
-bounds-runs-i c = omega arith
-
-pub put_run-to-requires : goal.put_run-to-requires
-put_run-to-requires c = omega arith
-
-pub overflow_add-i : goal.overflow_add-i
-overflow_add-i c = omega arith
-
-pub loop-i-smaller : goal.loop-i-smaller
-loop-i-smaller c = omega arith
-
-pub loop-i-preserved : goal.loop-i-preserved
-loop-i-preserved c = let l = c.loop-i in
-    let xs = c.args.runs in
-    let n = c.args.count in
-    let d = c.put_run-to.ensures in
-    (omega arith, omega (arith, d.next), c.put_run-to.auto.list ∙ l.invariant.2, left-turn (flat_runs (drop (l.i + 1) (take n xs))) d (rw (runs-next xs n l.i (omega arith) (omega arith)) at l.invariant.3))
+pub loop-run-preserved : goal.loop-run-preserved
+loop-run-preserved c =
+    let l = c.loop-run in
+    let rs = c.args.runs.now in
+    (omega (arith, c.put_run-to.ensures.next), left-turn (flat_runs (drop (l.run-index + 1) rs)) c.put_run-to.ensures (rw (next_run rs l.run-index c.loop-run-test.true) at l.invariant.1))
 
 pub returns : goal.returns
-returns c = let l = c.loop-i in
-    let xs = c.args.runs in
-    let n = c.args.count in
-    left_end (rw (runs-end xs n l.i (omega arith) (omega arith)) at l.invariant.3)
+returns c =
+    let l = c.loop-run in
+    (left_end (rw (none_left c.args.runs.now l.run-index c.loop-run-test.false) at l.invariant.1)).after

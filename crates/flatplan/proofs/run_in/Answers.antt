@@ -1,7 +1,6 @@
 -- `flatplan::run_in`: number by number.
 use mathlib.Core.Path.{refl}
 use Rattle.flatplan.specs.Flat.{run_at}
-use borrow.Author.Rules.{rules}
 use Rattle.flatplan.proofs.run_in.Goals as goal
 
 pub returns : goal.returns

@@ -1,34 +1,16 @@
--- `flatready::at_most`. The loop's invariant: the places passed were tested.
-use mathlib.Core.Path.{◌≡◌, ◌∙◌, sym}
-use Prim.Native.Nat.{◌≤◌, ◌+◌, ◌-◌}
-use native.Mathlib.Omega.{arith}
-use lib.Dec.{leb}
-use Rattle.base.specs.Tests.{up_to, up_to-none, up_to-next, and_pick}
+-- `flatready::at_most`: one number more.
+use Rattle.std.proofs.Common.{◌≡◌, ◌+◌, ◌-◌, take, drop, get_or, sym, ◌∙◌, arith, get_or-take}
+use Rattle.std.proofs.lemmas.List.{get_or-drop}
+use Rattle.base.specs.Tests.{up_to-none, up_to-next, and_pick}
 use Rattle.flat.specs.Flat.{number}
-use borrow.Author.Rules.{rules}
 use Rattle.flatready.proofs.at_most.Goals as goal
 
-pub loop-i-init : goal.loop-i-init
-loop-i-init c = (omega arith, sym (up_to-none _))
+pub loop-x-init : goal.loop-x-init
+loop-x-init c = sym (up_to-none _)
 
-pub overflow_add-x : goal.overflow_add-x
-overflow_add-x c = omega arith
-
-pub offset_bounds-list-from : goal.offset_bounds-list-from
-offset_bounds-list-from c = omega arith
-
-pub bounds-list-from : goal.bounds-list-from
-bounds-list-from c = omega arith
-
-pub overflow_add-i : goal.overflow_add-i
-overflow_add-i c = omega arith
-
-pub loop-i-smaller : goal.loop-i-smaller
-loop-i-smaller c = omega arith
-
-pub loop-i-preserved : goal.loop-i-preserved
-loop-i-preserved c = let l = c.loop-i in (omega arith, and_pick l.ok _ ∙ rw l.invariant.1 (sym (up_to-next _ l.i)))
-
-pub returns : goal.returns
-returns c = let e : c.loop-i.i ≡ c.args.n = omega arith in
-    rw e at c.loop-i.invariant.1
+pub loop-x-preserved : goal.loop-x-preserved
+loop-x-preserved c =
+    let l = c.loop-x in
+    let s = c.args in
+    let e : get_or (take (s.from + s.n - s.from) (drop s.from s.list.now)) l.x-index 0 ≡ number s.list.now (s.from + l.x-index) = grind (arith, get_or-take, get_or-drop) in
+    and_pick l.ok _ ∙ rw (e, l.invariant) (sym (up_to-next _ l.x-index))

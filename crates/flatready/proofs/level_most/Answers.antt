@@ -12,6 +12,6 @@ pub returns-then-list-eq1 : goal.returns-then-list-eq1
 unfolding block_of
 returns-then-list-eq1 c = rw (eq-eqb _ _ c.if-list-eq1.true, c.most_in.ensures, c.byte.ensures) (min-le_right 65535 _)
 
-pub returns : goal.returns
+pub returns-else-list-eq1 : goal.returns-else-list-eq1
 unfolding block_of
-returns c = rw (ne_eqb _ _ c.if-list-eq1.false) (omega arith)
+returns-else-list-eq1 c = rw (ne_eqb _ _ c.if-list-eq1.false) (omega arith)

@@ -1,7 +1,6 @@
 -- `flatrecon::entry_at`
 use Rattle.entries.specs.Entries.{packed_of}
 use Rattle.flat.specs.Flat.{color_at}
-use borrow.Author.Rules.{rules}
 use Rattle.flatrecon.proofs.entry_at.Goals as goal
 
 pub returns : goal.returns

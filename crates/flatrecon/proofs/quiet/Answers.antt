@@ -1,38 +1,16 @@
--- `flatrecon::quiet`. The loop's invariant: the cells passed were tested.
-use mathlib.Core.Path.{◌≡◌, ◌∙◌, sym}
-use mathlib.Core.Bool.{not}
-use Prim.Native.Nat.{◌≤◌, ◌+◌, ◌-◌}
-use native.Mathlib.Omega.{arith}
-use lib.Dec.{eqb}
-use Rattle.base.specs.Tests.{up_to, up_to-none, up_to-next, and_pick}
+-- `flatrecon::quiet`: the test of one cell more.
+use Rattle.std.proofs.Common.{◌≡◌, ◌+◌, ◌-◌, take, drop, get_or, sym, ◌∙◌, arith, get_or-take}
+use Rattle.std.proofs.lemmas.List.{get_or-drop}
+use Rattle.base.specs.Tests.{up_to-none, up_to-next, and_pick}
 use Rattle.flat.specs.Flat.{number}
-use borrow.Author.Rules.{rules}
 use Rattle.flatrecon.proofs.quiet.Goals as goal
 
-pub loop-k-init : goal.loop-k-init
-loop-k-init c = (omega arith, sym (up_to-none _))
+pub loop-x-init : goal.loop-x-init
+loop-x-init c = sym (up_to-none _)
 
-pub overflow_add-x : goal.overflow_add-x
-overflow_add-x c = omega arith
-
-pub overflow_add-x-in-loop-k : goal.overflow_add-x-in-loop-k
-overflow_add-x-in-loop-k c = omega arith
-
-pub offset_bounds-list-i : goal.offset_bounds-list-i
-offset_bounds-list-i c = omega arith
-
-pub bounds-list-i : goal.bounds-list-i
-bounds-list-i c = omega arith
-
-pub overflow_add-k : goal.overflow_add-k
-overflow_add-k c = omega arith
-
-pub loop-k-smaller : goal.loop-k-smaller
-loop-k-smaller c = omega arith
-
-pub loop-k-preserved : goal.loop-k-preserved
-loop-k-preserved c = let l = c.loop-k in (omega arith, and_pick l.ok _ ∙ rw l.invariant.1 (sym (up_to-next _ l.k)))
-
-pub returns : goal.returns
-returns c = let e : c.loop-k.k ≡ 16 = omega arith in
-    rw e at c.loop-k.invariant.1
+pub loop-x-preserved : goal.loop-x-preserved
+loop-x-preserved c =
+    let l = c.loop-x in
+    let s = c.args in
+    let e : get_or (take (352 + s.i - (336 + s.i)) (drop (336 + s.i) s.list.now)) l.x-index 0 ≡ number s.list.now (336 + (s.i + l.x-index)) = grind (arith, get_or-take, get_or-drop) in
+    and_pick l.ok _ ∙ rw (e, l.invariant) (sym (up_to-next _ l.x-index))

@@ -1,44 +1,13 @@
--- `flatupdate::copy`. The loop's invariant: what is left makes the whole.
-use mathlib.Core.Path.{◌≡◌, refl, sym, ◌∙◌}
-use Prim.Native.Nat.{◌+◌, ◌-◌, ◌≤◌}
-use native.Mathlib.Omega.{arith}
-use lib.ListN.{length, take, drop, length-set}
-use lib.Seq.{sets}
-use Rattle.flatupdate.specs.Renewing.{copy_start, copy_next, copy_end}
-use borrow.Author.Rules.{rules}
+-- `flatupdate::copy`: the part of the list, written whole.
+use Rattle.std.proofs.Common.{◌≡◌, ◌+◌, ◌-◌, take, drop, length, arith, length-drop, length-take-le}
+use Rattle.flatupdate.proofs.Part.{part_sets}
 use Rattle.flatupdate.proofs.copy.Goals as goal
 
-pub loop-i-init : goal.loop-i-init
-loop-i-init c = (omega arith, refl, copy_start c.args.list.now c.args.source.now c.args.to c.args.from c.args.n)
-
-pub overflow_add-list : goal.overflow_add-list
-overflow_add-list c = omega arith
-
-pub offset_bounds-source-from : goal.offset_bounds-source-from
-offset_bounds-source-from c = omega arith
-
-pub bounds-source-from : goal.bounds-source-from
-bounds-source-from c = omega arith
-
-pub overflow_add-list-in-loop-i : goal.overflow_add-list-in-loop-i
-overflow_add-list-in-loop-i c = omega arith
-
-pub offset_bounds-list-to : goal.offset_bounds-list-to
-offset_bounds-list-to c = omega arith
-
-pub bounds-list-to : goal.bounds-list-to
-bounds-list-to c = omega arith
-
-pub overflow_add-i : goal.overflow_add-i
-overflow_add-i c = omega arith
-
-pub loop-i-smaller : goal.loop-i-smaller
-loop-i-smaller c = omega arith
-
-pub loop-i-preserved : goal.loop-i-preserved
-loop-i-preserved c = let l = c.loop-i in
-    (omega arith, length-set l.list (c.args.to + l.i) _ ∙ l.invariant.1, copy_next l.list c.args.source.now c.args.to c.args.from c.args.n l.i (omega arith) (omega arith) ∙ l.invariant.2)
-
 pub returns : goal.returns
-returns c = let l = c.loop-i in
-    sym (copy_end l.list c.args.source.now c.args.to c.args.from c.args.n l.i (omega arith)) ∙ l.invariant.2
+returns c =
+    let s = c.args in
+    let z : s.from + s.n - s.from ≡ s.n = omega arith in
+    let w : s.to + s.n - s.to ≡ s.n = omega arith in
+    let e : c.copy_from_slice.new.self ≡ take s.n (drop s.from s.source.now) = rw z at c.copy_from_slice.ensures.after in
+    let n : length (take s.n (drop s.from s.source.now)) ≡ s.n = length-take-le s.n (drop s.from s.source.now) (omega (arith, length-drop s.from s.source.now)) in
+    rw (e, w) (part_sets s.list.now (take s.n (drop s.from s.source.now)) s.to s.n (omega arith) n)

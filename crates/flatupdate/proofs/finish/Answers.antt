@@ -1,44 +1,15 @@
--- `flatupdate::finish`. The loop's invariant: what is left makes the whole.
-use mathlib.Core.Path.{◌≡◌, refl, sym, ◌∙◌}
-use Prim.Native.Nat.{◌+◌, ◌*◌, ◌-◌, ◌≤◌}
-use native.Mathlib.Omega.{arith}
-use lib.ListN.{length, replicate, length-set}
-use lib.Seq.{sets}
-use Rattle.flatupdate.specs.Renewing.{clear_next, clear_end}
-use borrow.Author.Rules.{rules}
+-- `flatupdate::finish`: the part of the list after the entries, written whole.
+use Rattle.std.proofs.Common.{◌≡◌, ◌+◌, ◌*◌, ◌-◌, set, take, drop, replicate, length, arith, length-set, length-drop, length-take-le}
+use Rattle.std.proofs.lemmas.List.{length-replicate}
+use Rattle.flatupdate.proofs.Part.{part_sets}
 use Rattle.flatupdate.proofs.finish.Goals as goal
 
-pub overflow_cast-list : goal.overflow_cast-list
-overflow_cast-list c = omega arith
-
-pub bounds-list-0 : goal.bounds-list-0
-bounds-list-0 c = omega arith
-
-pub overflow_mul-i : goal.overflow_mul-i
-overflow_mul-i c = omega arith
-
-pub loop-i-init : goal.loop-i-init
-loop-i-init c = (omega arith, refl, refl)
-
-pub overflow_add-list : goal.overflow_add-list
-overflow_add-list c = omega arith
-
-pub offset_bounds-list-i : goal.offset_bounds-list-i
-offset_bounds-list-i c = omega arith
-
-pub bounds-list-i : goal.bounds-list-i
-bounds-list-i c = omega (arith, length-set c.args.list.now 0 c.args.size)
-
-pub overflow_add-i : goal.overflow_add-i
-overflow_add-i c = omega arith
-
-pub loop-i-smaller : goal.loop-i-smaller
-loop-i-smaller c = omega arith
-
-pub loop-i-preserved : goal.loop-i-preserved
-loop-i-preserved c = let l = c.loop-i in
-    (omega arith, length-set l.list (1 + l.i) _ ∙ l.invariant.1, clear_next l.list l.i (omega arith) ∙ l.invariant.2)
-
 pub returns : goal.returns
-returns c = let l = c.loop-i in
-    sym (clear_end l.list l.i (omega arith)) ∙ l.invariant.2
+returns c =
+    let s = c.args in
+    let l = set s.list.now 0 s.size in
+    let a = 1 + 3 * s.size in
+    let w : 385 - a ≡ 384 - 3 * s.size = omega arith in
+    let m : length (take (385 - a) (drop a l)) ≡ 385 - a = length-take-le (385 - a) (drop a l) (omega (arith, length-drop a l, length-set s.list.now 0 s.size)) in
+    let e = c.fill.ensures.after (λ y z. z) in
+    rw (w, rw (m, w) at e) (part_sets l (replicate (384 - 3 * s.size) 0) a (384 - 3 * s.size) (omega (arith, length-set s.list.now 0 s.size)) (length-replicate (384 - 3 * s.size) 0))

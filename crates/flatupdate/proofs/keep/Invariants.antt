@@ -1,16 +1,11 @@
 -- `flatupdate::keep`. The loop's invariant: what is laid and what is to follow make the whole.
-use mathlib.Core.Path.{◌≡◌, refl, sym, ◌∙◌}
+use mathlib.Core.Path.{◌≡◌}
 use mathlib.Core.List.{List}
-use Prim.Native.Nat.{◌+◌, ◌-◌, ◌≤◌}
-use native.Mathlib.Omega.{arith}
-use borrow.Author.Tests.{leb-true}
-use lib.Dec.{leb}
+use Prim.Native.Nat.{◌-◌, ◌≤◌}
 use lib.ListN.{length}
-use Rattle.base.specs.Tests.{both, and_pick}
 use Rattle.model.specs.declared.Color.{Color}
 use Rattle.flat.specs.Flat.{colors_of}
-use Rattle.flatupdate.specs.Renewing.{Keeping, keeping_start, keeping_step, keeping_full, keeping_end}
-use borrow.Author.Rules.{rules}
+use Rattle.flatupdate.specs.Renewing.{Keeping}
 use Rattle.flatupdate.proofs.keep.Given as goal
 
 abbrev pub invariant-loop-j : goal.invariant-loop-j

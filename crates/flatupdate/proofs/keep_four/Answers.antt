@@ -1,8 +1,6 @@
 -- `flatupdate::keep_four`: one after the other.
 use native.Mathlib.Omega.{arith}
-use Prim.Native.Nat.{◌+◌}
 use Rattle.flatupdate.specs.Renewing.{walked_one, walked_next}
-use borrow.Author.Rules.{rules}
 use Rattle.flatupdate.proofs.keep_four.Goals as goal
 
 pub keep_one-a-requires : goal.keep_one-a-requires

@@ -5,7 +5,6 @@ use native.Mathlib.Omega.{arith}
 use lib.ListN.{length-set}
 use Rattle.flat.specs.Flat.{number}
 use Rattle.flatupdate.specs.Renewing.{two-long, three-long}
-use borrow.Author.Rules.{rules}
 use Rattle.flatupdate.proofs.keep_one.Goals as goal
 
 pub returns-then-block-j-eq1 : goal.returns-then-block-j-eq1

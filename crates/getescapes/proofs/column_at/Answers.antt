@@ -1,58 +1,51 @@
--- `getescapes::column_at`. The invariant: what was read, before what is left to read, is what was to be read.
-use mathlib.Core.Path.{◌≡◌, refl, sym, ap, ◌∙◌}
-use Prim.Native.Nat.{ℕ, ◌+◌, ◌-◌, ◌≤◌}
-use Rattle.base.specs.Answer.{Value}
-use native.Mathlib.Omega.{arith}
-use lib.ListN.{length, take, drop, set, replicate, length-set}
-use Rattle.base.specs.Codes.{each_at}
+-- `getescapes::column_at`: what was read, before what is left to read, is what was to be read.
+use Rattle.std.proofs.Common.{rules, arith, sym, ◌∙◌, ◌≡◌, refl, take, drop, length}
+use Rattle.std.proofs.Math.Nat.{le_refl}
+use Rattle.std.proofs.Math.ListN.{length-set}
+use Rattle.std.proofs.Math.Seq.{take-length}
 use Rattle.base.specs.Prepend.{prepend, prepend-none, prepend-push, prepend-end}
-use Rattle.bins.specs.As.{as_number}
 use Rattle.syntax.specs.Block.{dues, level_at}
 use Rattle.syntax.specs.EachTurns.{each_turn, each-refused, each-end}
 use Rattle.getescapes.specs.Read.{due_of, due_turn, due_end, level-small}
-use borrow.Author.Rules.{rules}
 use Rattle.getescapes.proofs.column_at.Goals as goal
 
 pub loop-i-init : goal.loop-i-init
-loop-i-init c = (omega arith, refl, prepend-none _)
+loop-i-init c = record { room = refl; left = prepend-none _; list = refl }
 
-pub cell_at-requires : goal.cell_at-requires
-cell_at-requires c = (omega arith, omega arith)
-
-pub returns-in-Refused : goal.returns-in-Refused
+pub returns-in_err-values-clause-value : goal.returns-in_err-values-clause-value
 unfolding prepend
-returns-in-Refused c = let b = c.loop-i in
+returns-in_err-values-clause-value c =
+    let b = c.loop-i in
     let g = c.args in
-    let o : length g.indices ≡ 1024 = search rules in
-    let f = sym c.in-Refused.ensures in
-    let z = each-refused (level_at g.lossless g.depth) (dues (due_of g.escape g.format g.size g.turned g.k) g.e b.i (drop b.i (take g.n g.indices))) _ _ g.list.now b.p (due_turn g.escape g.format g.size g.turned g.k g.e g.indices g.n (omega arith) b.i (omega arith)) _ _ f in
-    rw z at b.invariant.2
+    let s = g.cells.now in
+    let d = simp take-length at (due_turn s.escape s.format s.size s.turned g.k s.e s.indices.now (length s.indices.now) (le_refl _) b.i (omega arith)) in
+    let z = each-refused (level_at s.lossless g.depth) (dues (due_of s.escape s.format s.size s.turned g.k) s.e b.i (drop b.i s.indices.now)) _ _ b.reader.list.now b.reader.at d _ _ (sym c.in_err-values.ensures.value) in
+    let y = rw z at b.invariant.left in
+    search rules
 
-pub narrow-w-requires : goal.narrow-w-requires
-narrow-w-requires c = let f = sym c.in-Is.ensures in
-    level-small c.args.lossless c.args.depth _ c.args.list.now _ _ _ (omega arith) f
-
-pub bounds-values-i : goal.bounds-values-i
-bounds-values-i c = omega arith
-
-pub overflow_add-i : goal.overflow_add-i
-overflow_add-i c = omega arith
-
-pub loop-i-smaller : goal.loop-i-smaller
-loop-i-smaller c = omega arith
+pub overflow_cast-values : goal.overflow_cast-values
+overflow_cast-values c =
+    omega (arith, level-small c.args.cells.now.lossless c.args.depth _ c.loop-i.reader.list.now _ _ _ (omega arith) (sym c.in_ok-values.ensures.value))
 
 pub loop-i-preserved : goal.loop-i-preserved
-loop-i-preserved c = let b = c.loop-i in
+loop-i-preserved c =
+    let b = c.loop-i in
     let g = c.args in
-    let o : length g.indices ≡ 1024 = search rules in
-    let f = sym c.in-Is.ensures in
-    let z = each_turn (level_at g.lossless g.depth) (dues (due_of g.escape g.format g.size g.turned g.k) g.e b.i (drop b.i (take g.n g.indices))) _ _ g.list.now b.p (due_turn g.escape g.format g.size g.turned g.k g.e g.indices g.n (omega arith) b.i (omega arith)) _ _ f in
-    (omega arith, simp length-set b.invariant.1, rw (c.narrow-w.ensures, prepend-push b.values b.i c.in-Is.v _ (omega arith), ← z) b.invariant.2)
+    let s = g.cells.now in
+    let d = simp take-length at (due_turn s.escape s.format s.size s.turned g.k s.e s.indices.now (length s.indices.now) (le_refl _) b.i (omega arith)) in
+    let z = each_turn (level_at s.lossless g.depth) (dues (due_of s.escape s.format s.size s.turned g.k) s.e b.i (drop b.i s.indices.now)) _ _ b.reader.list.now b.reader.at d _ _ (sym c.in_ok-values.ensures.value) in
+    record {
+      room = simp length-set b.invariant.room;
+      left = rw (prepend-push b.values b.i c.in_ok-values.field-0 _ (omega arith), c.in_ok-values.ensures.list, ← z) b.invariant.left;
+      list = search rules;
+    }
 
-pub returns : goal.returns
-returns c = let b = c.loop-i in
+pub returns-clause-value : goal.returns-clause-value
+returns-clause-value c =
+    let b = c.loop-i in
     let g = c.args in
-    let o : length g.indices ≡ 1024 = search rules in
-    let m : b.i ≡ g.n = omega arith in
-    let e = each-end (level_at g.lossless g.depth) (dues (due_of g.escape g.format g.size g.turned g.k) g.e b.i (drop b.i (take g.n g.indices))) g.list.now b.p (due_end g.escape g.format g.size g.turned g.k g.e g.indices g.n (omega arith) b.i (omega arith)) in
-    ap (λ (z : ℕ). Value (take z b.values) b.p) (sym m) ∙ (sym (prepend-end (take b.i b.values) b.p) ∙ rw e at b.invariant.2)
+    let s = g.cells.now in
+    let d = simp take-length at (due_end s.escape s.format s.size s.turned g.k s.e s.indices.now (length s.indices.now) (le_refl _) b.i (omega arith)) in
+    let e = each-end (level_at s.lossless g.depth) (dues (due_of s.escape s.format s.size s.turned g.k) s.e b.i (drop b.i s.indices.now)) b.reader.list.now b.reader.at d in
+    let m : b.i ≡ length s.indices.now = omega arith in
+    rw (← m) (sym (prepend-end (take b.i b.values) b.reader.at) ∙ rw e at b.invariant.left)

@@ -1,14 +1,10 @@
-use mathlib.Core.Path.{◌≡◌, refl, sym, ap, ◌∙◌}
-use mathlib.Core.Bool.{Bool, true, false}
-use Prim.Native.Nat.{ℕ, suc, ◌+◌, ◌-◌, ◌*◌, ◌/◌, ◌%◌, ◌^◌, ◌≤◌, ◌<◌}
+use mathlib.Core.Path.{◌∙◌}
 use native.Mathlib.Omega.{arith}
-use borrow.Author.Tests.{lt-ltb, le-ltb, eq-eqb, ne_eqb}
 use Rattle.sums.specs.SumLaws.{run_from_lem}
-use borrow.Author.Rules.{rules}
 use Rattle.lengths.proofs.run_bits.Goals as goal
 
 pub run_from-requires : goal.run_from-requires
 run_from-requires c = (omega (arith, c.row_of.ensures.1), omega arith, omega arith)
 
 pub returns : goal.returns
-returns c = c.run_from.ensures ∙ rw c.row_of.ensures.0 (run_from_lem _ _ _ _ _ _ _ c.run_sums-s.ensures (omega arith) (omega arith))
+returns c = c.run_from.ensures ∙ rw c.row_of.ensures.0 (run_from_lem _ _ _ _ _ _ _ c.run_sums.ensures (omega arith) (omega arith))

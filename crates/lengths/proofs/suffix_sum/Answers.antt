@@ -1,13 +1,11 @@
-use mathlib.Core.Path.{◌≡◌, refl, sym, ap, ◌∙◌}
-use mathlib.Core.Bool.{Bool, true, false}
-use Prim.Native.Nat.{ℕ, suc, ◌+◌, ◌-◌, ◌*◌, ◌/◌, ◌%◌, ◌^◌, ◌≤◌, ◌<◌}
+use mathlib.Core.Path.{ap, ◌∙◌}
+use Prim.Native.Nat.{ℕ, ◌^◌}
 use native.Mathlib.Omega.{arith}
-use borrow.Author.Tests.{lt-ltb, le-ltb, eq-eqb, ne_eqb}
+use borrow.Author.Tests.{ne_eqb}
 use Rattle.bins.specs.Logarithm.{flog-most}
 use Rattle.h265.specs.Strings.{flog}
 use Rattle.h265.specs.StringLaws.{flog-low}
 use Rattle.sums.specs.Sums.{suffix_sum}
-use borrow.Author.Rules.{rules}
 use Rattle.lengths.proofs.suffix_sum.Goals as goal
 
 pub returns-then-more-eq0 : goal.returns-then-more-eq0

@@ -1,13 +1,9 @@
-use mathlib.Core.Path.{◌≡◌, refl, sym, ap, ◌∙◌}
-use mathlib.Core.Bool.{Bool, true, false}
-use Prim.Native.Nat.{ℕ, suc, ◌+◌, ◌-◌, ◌*◌, ◌/◌, ◌%◌, ◌^◌, ◌≤◌, ◌<◌}
 use native.Mathlib.Omega.{arith}
-use borrow.Author.Tests.{lt-ltb, le-ltb, eq-eqb, ne_eqb}
+use borrow.Author.Tests.{lt-ltb, le-ltb}
 use Rattle.base.specs.Upto.{literal_1}
 use Rattle.bins.specs.Logarithm.{flog-most}
 use Rattle.h265.specs.StringLaws.{flog-high}
 use Rattle.sums.specs.Sums.{tb_sum}
-use borrow.Author.Rules.{rules}
 use Rattle.lengths.proofs.tb_sum.Goals as goal
 
 pub returns-then-n-lt2 : goal.returns-then-n-lt2
@@ -30,6 +26,6 @@ pub returns-then-v-pow2 : goal.returns-then-v-pow2
 unfolding tb_sum
 returns-then-v-pow2 c = rw (le-ltb _ _ c.if-n-lt2.false, ← c.flog-k.ensures, ← c.pow2.ensures, lt-ltb _ _ c.if-v-pow2.true, c.number-bits.ensures)
 
-pub returns : goal.returns
+pub returns-else-v-pow2 : goal.returns-else-v-pow2
 unfolding tb_sum
-returns c = rw (le-ltb _ _ c.if-n-lt2.false, ← c.flog-k.ensures, ← c.pow2.ensures, le-ltb _ _ c.if-v-pow2.false, c.number-bits.ensures, literal_1)
+returns-else-v-pow2 c = rw (le-ltb _ _ c.if-n-lt2.false, ← c.flog-k.ensures, ← c.pow2.ensures, le-ltb _ _ c.if-v-pow2.false, c.number-bits.ensures, literal_1)

@@ -1,14 +1,7 @@
 -- `levels::one_level`: the level of a value of 12 bits fits.
-use native.Mathlib.Omega.{arith}
+use Rattle.std.proofs.Common.{arith}
 use Rattle.quant.specs.QuantLaws.{level-small}
-use borrow.Author.Rules.{rules}
 use Rattle.levels.proofs.one_level.Goals as goal
 
 pub overflow_cast-result : goal.overflow_cast-result
 overflow_cast-result c = omega (arith, level-small c.args.lossless c.args.step c.args.most c.args.v c.requires.0 c.requires.2, c.quantize_escape.ensures)
-
-pub returns-then-used : goal.returns-then-used
-returns-then-used c = rw c.if-used.true c.quantize_escape.ensures
-
-pub returns : goal.returns
-returns c = rw c.if-used.false

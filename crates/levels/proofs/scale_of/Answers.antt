@@ -7,7 +7,6 @@ use mir.Syntax.{w32}
 use Rattle.model.specs.Domain.{most}
 use Rattle.model.specs.ConfigLaws.{depth-most, config_bounds}
 use Rattle.levels.specs.Levels.{scale_of}
-use borrow.Author.Rules.{rules}
 use Rattle.levels.proofs.scale_of.Goals as goal
 
 pub step-sy-requires : goal.step-sy-requires
@@ -28,4 +27,4 @@ returns c = let a = c.args.c in
     let r = to_z-of_z {w = w32} {z = a.qp_cr} (record { sfits = c.struct_told-1.given.1.1.1.1.1.1.0.1 }) in
     let y : min 65535 (most a.bd_luma) ≡ most a.bd_luma = omega (arith, depth-most a.bd_luma b.luma) in
     let u : min 65535 (most a.bd_chroma) ≡ most a.bd_chroma = omega (arith, depth-most a.bd_chroma b.chroma) in
-    rw (c.step-sy.ensures.0, c.step-su.ensures.0, c.step-sv.ensures.0, c.most_in-ym.ensures, c.most_in-cm.ensures, p, q, r, y, u)
+    rw (c.step-sy.ensures.0, c.step-su.ensures.0, c.step-sv.ensures.0, c.from-ym.ensures, c.from-cm.ensures, c.most_in.ensures, c.most_in-2.ensures, p, q, r, y, u)

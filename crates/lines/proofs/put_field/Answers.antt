@@ -1,7 +1,6 @@
 -- `lines::put_field`: the text, then the number.
 use native.Mathlib.Omega.{arith}
 use Rattle.base.specs.Laid.{laid_then}
-use borrow.Author.Rules.{rules}
 use Rattle.lines.proofs.put_field.Goals as goal
 
 pub returns : goal.returns

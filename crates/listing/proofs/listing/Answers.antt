@@ -1,18 +1,16 @@
 -- `listing::listing`: 16 where the layout is another, else what the reader answers.
-use mathlib.Core.Path.{sym, ◌∙◌}
-use native.Mathlib.Omega.{arith}
+use Rattle.std.proofs.Common.{sym, ◌∙◌}
+use Rattle.readblock.specs.Read.{as_read}
 use Rattle.listing.specs.Printed.{count_most, listing_read, listing_refused}
-use borrow.Author.Rules.{rules}
 use Rattle.listing.proofs.listing.Goals as goal
 
-pub reading-b-requires : goal.reading-b-requires
-reading-b-requires c = sym c.laid_out.ensures ∙ c.if-laid_out.true
-
 pub put_read-requires : goal.put_read-requires
-put_read-requires c = count_most c.args.file.now c.reading-b.result c.reading-b.ensures
+put_read-requires c = count_most c.args.file.now (as_read c.reading-answer.result) c.reading-answer.ensures
 
-pub returns-then-laid_out : goal.returns-then-laid_out
-returns-then-laid_out c = record { laid = rw (← listing_read c.args.file.now c.reading-b.result (sym c.laid_out.ensures ∙ c.if-laid_out.true) c.reading-b.ensures) c.put_read.ensures.laid; near = c.put_read.ensures.near }
+pub returns-then-laid_out-clause-laid : goal.returns-then-laid_out-clause-laid
+returns-then-laid_out-clause-laid c =
+    rw (← listing_read c.args.file.now (as_read c.reading-answer.result) (sym c.laid_out.ensures ∙ c.if-laid_out.true) c.reading-answer.ensures) c.put_read.ensures.laid
 
-pub returns : goal.returns
-returns c = record { laid = rw (← listing_refused c.args.file.now (sym c.laid_out.ensures ∙ c.if-laid_out.false)) c.put_refused.ensures.laid; near = omega (arith, c.put_refused.ensures.near) }
+pub returns-else-laid_out-clause-laid : goal.returns-else-laid_out-clause-laid
+returns-else-laid_out-clause-laid c =
+    rw (← listing_refused c.args.file.now (sym c.laid_out.ensures ∙ c.if-laid_out.false)) (rw c.from.ensures at c.put_refused.ensures.laid)

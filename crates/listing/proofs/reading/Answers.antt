@@ -6,7 +6,6 @@ use lib.ListN.{length, drop, length-drop}
 use lib.Seq.{take_all}
 use Rattle.layout.specs.LayoutLaws.{bins_within}
 use Rattle.listing.specs.Printed.{reading_in}
-use borrow.Author.Rules.{rules}
 use Rattle.listing.proofs.reading.Goals as goal
 
 pub slice_bounds-read_palette_cu-count : goal.slice_bounds-read_palette_cu-count
@@ -19,4 +18,4 @@ pub returns : goal.returns
 unfolding reading_in
 returns c = let l = c.args.file.now in
     let k = c.word_at-from.result in
-    c.read_palette_cu.ensures ∙ rw (take_all (length l - k) (drop k l) (omega (arith, length-drop k l)), c.word_at-size.ensures.0, c.held_at-format.ensures, c.held_at-luma.ensures, c.held_at-chroma.ensures, c.word_at-lossless.ensures.0, c.predictor_of-p.ensures, c.word_at-from.ensures.0)
+    c.read_palette_cu.ensures ∙ rw (take_all (length l - k) (drop k l) (omega (arith, length-drop k l)), c.word_at.ensures.0, c.held_at.ensures, c.held_at-2.ensures, c.held_at-3.ensures, c.word_at-2.ensures.0, c.predictor_of.ensures, c.word_at-from.ensures.0)

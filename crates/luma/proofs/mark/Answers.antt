@@ -1,7 +1,6 @@
 -- `luma::mark`: a value met before, or a new one. Assumes nothing.
 use mathlib.Core.Path.{refl, sym, ◌∙◌}
 use Rattle.base.specs.Pick.{true_false}
-use borrow.Author.Rules.{rules}
 use Rattle.luma.proofs.mark.Goals as goal
 
 pub returns-then-seen-v : goal.returns-then-seen-v

@@ -1,22 +1,15 @@
-use mathlib.Core.Path.{◌≡◌, refl, sym, ap, ◌∙◌}
-use mathlib.Core.Bool.{Bool, true, false, not}
-use mathlib.Core.List.{List, [], ◌∷◌}
-use Prim.Native.Nat.{ℕ, suc, ◌+◌, ◌-◌, ◌*◌, ◌≤◌, ◌<◌}
-use native.Mathlib.Omega.{arith}
-use lib.ListN.{get_or}
-use borrow.Author.Tests.{lt-ltb, le-ltb, eq-eqb, ne_eqb}
+use Rattle.std.proofs.Common.{ne_eqb, ◌≡◌, ⊎_elim, true}
 use Rattle.measure.specs.Steps.{stretch_step}
-use borrow.Author.Rules.{rules}
 use Rattle.measure.proofs.stretch_step.Goals as goal
-
-pub returns-then-len-eq0 : goal.returns-then-len-eq0
-unfolding stretch_step
-returns-then-len-eq0 c = rw c.if-len-eq0.true
 
 pub returns-then-below : goal.returns-then-below
 unfolding stretch_step
-returns-then-below c = rw (ne_eqb _ _ c.if-len-eq0.false, c.if-below.true)
+returns-then-below c =
+    ⊎_elim
+    (λ (e : c.args.len ≡ 0). rw e)
+    (λ (e : (c.args.len ≡ 0 → ⊥) × (c.args.below ≡ true)). rw (ne_eqb _ _ e.0, e.1))
+    c.if-below.either
 
-pub returns : goal.returns
+pub returns-else-below : goal.returns-else-below
 unfolding stretch_step
-returns c = rw (ne_eqb _ _ c.if-len-eq0.false, c.if-below.false)
+returns-else-below c = rw (ne_eqb _ _ c.if-below.false.0, c.if-below.false.1)

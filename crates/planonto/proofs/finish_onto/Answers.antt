@@ -1,12 +1,10 @@
-use mathlib.Core.Path.{◌≡◌, refl, sym, ap, ◌∙◌}
-use mathlib.Core.Bool.{Bool, true, false}
-use Prim.Native.Nat.{ℕ, suc, ◌+◌, ◌-◌, ◌*◌, ◌≤◌, ◌<◌}
+use mathlib.Core.Path.{sym, ◌∙◌}
+use mathlib.Core.Bool.{false}
 use native.Mathlib.Omega.{arith}
-use lib.ListN.{get_or, length, replicate, length-replicate}
+use lib.ListN.{length-replicate}
 use native.Mathlib.Nat.{le_refl}
 use Rattle.walk.specs.PointLaws.{points_laid, trail_rising}
 use Rattle.finish.specs.FoundLaws.{length_runs}
-use borrow.Author.Rules.{rules}
 use Rattle.planonto.proofs.finish_onto.Goals as goal
 
 pub lay-count-requires : goal.lay-count-requires

@@ -1,14 +1,12 @@
-use mathlib.Core.Path.{◌≡◌, refl, sym, ap, ◌∙◌}
-use native.Mathlib.Omega.{arith}
-use borrow.Author.Tests.{le-leb, lt-leb}
-use borrow.Author.Rules.{rules}
+use Rattle.std.proofs.Common.{arith, le-leb}
+use Rattle.std.proofs.lemmas.Bool.{lt-leb}
 use Rattle.planonto.proofs.put_fitting.Goals as goal
-
-pub returns-then-list-count : goal.returns-then-list-count
-returns-then-list-count c = rw (lt-leb _ _ c.if-list-count.true)
 
 pub put_path-requires : goal.put_path-requires
 put_path-requires c = (c.requires.0, c.requires.1, omega arith)
 
-pub returns : goal.returns
-returns c = rw (le-leb _ _ c.if-list-count.false) c.put_path.ensures
+pub returns-then-count-list : goal.returns-then-count-list
+returns-then-count-list c = rw (le-leb _ _ c.if-count-list.true) c.put_path.ensures
+
+pub returns-else-count-list : goal.returns-else-count-list
+returns-else-count-list c = rw (lt-leb _ _ c.if-count-list.false)

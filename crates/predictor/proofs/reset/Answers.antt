@@ -1,6 +1,5 @@
 use mathlib.Core.Path.{refl}
 use Rattle.predictor.specs.Update.{padded, empty_predictor}
-use borrow.Author.Rules.{rules}
 use Rattle.predictor.proofs.reset.Goals as goal
 
 pub returns : goal.returns

@@ -1,23 +1,28 @@
-use mathlib.Core.Path.{◌∙◌, sym}
+-- `predictor::update`: refusal by refusal, then the predictor renewed.
+use Rattle.std.proofs.Common.{◌∙◌, sym, arith}
 use Rattle.predictor.specs.UpdateLaws.{update_two, update_five, update_seven, update_done, update_fits}
-use borrow.Author.Rules.{rules}
 use Rattle.predictor.proofs.update.Goals as goal
 
-pub renewed-after-requires : goal.renewed-after-requires
-renewed-after-requires c = let a = c.args in
-    update_fits a.p a.cu a.limit c.predictor_in.result c.predictor_in.ensures c.if-predictor_in-limit.true (sym c.holds_together.ensures ∙ c.if-holds_together.true)
+pub returns-then-not-block_size_in : goal.returns-then-not-block_size_in
+returns-then-not-block_size_in c = update_two c.args.p c.args.cu c.args.limit (sym c.block_size_in.ensures ∙ c.if-not-block_size_in.true)
 
-pub returns-then-holds_together : goal.returns-then-holds_together
-returns-then-holds_together c = let a = c.args in
-    update_done a.p a.cu a.limit c.predictor_in.result c.predictor_in.ensures _ (sym c.block_size_in.ensures ∙ c.if-block_size_in.true) c.if-predictor_in-limit.true (sym c.holds_together.ensures ∙ c.if-holds_together.true) c.renewed-after.ensures
+pub returns-then-not-predictor_in-limit : goal.returns-then-not-predictor_in-limit
+returns-then-not-predictor_in-limit c =
+    let a = c.args in
+    update_five a.p a.cu a.limit c.predictor_in.result c.predictor_in.ensures (sym c.block_size_in.ensures ∙ c.if-not-block_size_in.false) c.if-not-predictor_in-limit.true
 
-pub returns-then-predictor_in-limit : goal.returns-then-predictor_in-limit
-returns-then-predictor_in-limit c = let a = c.args in
-    update_seven a.p a.cu a.limit c.predictor_in.result c.predictor_in.ensures (sym c.block_size_in.ensures ∙ c.if-block_size_in.true) c.if-predictor_in-limit.true (sym c.holds_together.ensures ∙ c.if-holds_together.false)
+pub returns-then-not-holds_together : goal.returns-then-not-holds_together
+returns-then-not-holds_together c =
+    let a = c.args in
+    update_seven a.p a.cu a.limit c.predictor_in.result c.predictor_in.ensures (sym c.block_size_in.ensures ∙ c.if-not-block_size_in.false) c.if-not-predictor_in-limit.false (sym c.holds_together.ensures ∙ c.if-not-holds_together.true)
 
-pub returns-then-block_size_in : goal.returns-then-block_size_in
-returns-then-block_size_in c = let a = c.args in
-    update_five a.p a.cu a.limit c.predictor_in.result c.predictor_in.ensures (sym c.block_size_in.ensures ∙ c.if-block_size_in.true) c.if-predictor_in-limit.false
+pub renewed-requires : goal.renewed-requires
+renewed-requires c =
+    let a = c.args in
+    let f = update_fits a.p a.cu a.limit c.predictor_in.result c.predictor_in.ensures c.if-not-predictor_in-limit.false (sym c.holds_together.ensures ∙ c.if-not-holds_together.false) in
+    (f.0, f.1, f.2, omega arith)
 
 pub returns : goal.returns
-returns c = update_two c.args.p c.args.cu c.args.limit (sym c.block_size_in.ensures ∙ c.if-block_size_in.false)
+returns c =
+    let a = c.args in
+    update_done a.p a.cu a.limit c.predictor_in.result c.predictor_in.ensures _ (sym c.block_size_in.ensures ∙ c.if-not-block_size_in.false) c.if-not-predictor_in-limit.false (sym c.holds_together.ensures ∙ c.if-not-holds_together.false) c.renewed.ensures

@@ -1,22 +1,14 @@
 -- `put::put_long`: eight bits as a word, or the lowest bit after the others.
 use native.Mathlib.Omega.{arith}
-use borrow.Author.Rules.{rules}
 use Rattle.base.specs.Laid.{laid_none, laid_then}
 use Rattle.h265.specs.Strings.{bits}
 use Rattle.h265.specs.StringLaws.{length-bits}
 use Rattle.put.specs.Straight.{bits-last}
-use Prim.Native.Nat.{ℕ, ◌<◌}
 use Rattle.put.proofs.+put_long.Goals as goal
 
 pub returns-then-n-eq0 : goal.returns-then-n-eq0
 unfolding bits
 returns-then-n-eq0 t c = rw c.if-n-eq0.true (laid_none _ _)
-
-pub returns-then-at-list : goal.returns-then-at-list
-returns-then-at-list t c = rw (c.if-n-eq8.true, ← c.spread_eight.ensures) c.lay_word.ensures
-
-pub put_long-to-requires : goal.put_long-to-requires
-put_long-to-requires t c = (omega (arith, c.requires.0, c.if-n-eq0.false), (omega (arith, c.requires.1), omega (arith, c.requires.1)))
 
 pub put_bin-requires : goal.put_bin-requires
 put_bin-requires t c = omega (arith, rw length-bits at c.put_long-to.ensures.next, c.requires.1)

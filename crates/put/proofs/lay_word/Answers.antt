@@ -3,14 +3,13 @@ use mathlib.Core.Path.{◌≡◌, refl}
 use native.Mathlib.Omega.{arith}
 use Rattle.base.specs.Laid.{laid_none}
 use Rattle.put.specs.Words.{bytes, laid_twice}
-use borrow.Author.Rules.{rules}
 use Rattle.put.proofs.lay_word.Goals as goal
 
 pub returns-then-n-ge4 : goal.returns-then-n-ge4
-returns-then-n-ge4 c = laid_twice 4 c.args.n c.args.w c.args.list.now c.args.at c.if-n-ge4.true (omega arith) c.store_four.ensures c.store_four-then-n-ge4.ensures
+returns-then-n-ge4 c = laid_twice 4 c.args.n c.args.w c.args.list.now c.args.at c.if-n-ge4.true (omega arith) c.store.ensures c.store-then-n-ge4.ensures
 
 pub returns-then-n-ge2 : goal.returns-then-n-ge2
-returns-then-n-ge2 c = laid_twice 2 c.args.n c.args.w c.args.list.now c.args.at c.if-n-ge2.true (omega arith) c.store_two.ensures c.store_two-then-n-ge2.ensures
+returns-then-n-ge2 c = laid_twice 2 c.args.n c.args.w c.args.list.now c.args.at c.if-n-ge2.true (omega arith) c.store-then-n-ge2.ensures c.store-then-n-ge2-2.ensures
 
 pub returns-then-n-eq1 : goal.returns-then-n-eq1
 unfolding bytes

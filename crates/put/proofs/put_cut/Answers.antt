@@ -2,11 +2,7 @@
 use native.Mathlib.Omega.{arith}
 use Rattle.h265.specs.StringLaws.{length-bits}
 use Rattle.put.specs.Words.{tb-either}
-use borrow.Author.Rules.{rules}
 use Rattle.put.proofs.put_cut.Goals as goal
-
-pub put_bits-requires : goal.put_bits-requires
-put_bits-requires c = (omega (arith, c.bits_for.ensures.1), omega arith)
 
 pub returns : goal.returns
 returns c = (

@@ -1,12 +1,11 @@
 -- `put::shorts`: between 0 and the alphabet's size.
 use mathlib.Core.Path.{ap}
-use Prim.Native.Nat.{ℕ, ◌-◌, ◌+◌, ◌^◌}
+use Prim.Native.Nat.{ℕ, ◌-◌}
 use native.Mathlib.Omega.{arith}
 use Rattle.base.specs.Powers.{pow_next}
 use Rattle.h265.specs.Strings.{flog}
 use Rattle.h265.specs.StringLaws.{flog-low, flog-high}
 use Rattle.bins.specs.Logarithm.{flog-most}
-use borrow.Author.Rules.{rules}
 use Rattle.put.proofs.shorts.Goals as goal
 
 pub overflow_add-k : goal.overflow_add-k

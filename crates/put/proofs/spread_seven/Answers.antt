@@ -1,7 +1,6 @@
 -- `put::spread_seven`: the definition's product.
 use mathlib.Core.Path.{refl}
 use Rattle.put.specs.Words.{spread, spread-most}
-use borrow.Author.Rules.{rules}
 use Rattle.put.proofs.spread_seven.Goals as goal
 
 pub returns : goal.returns

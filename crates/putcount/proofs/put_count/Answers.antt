@@ -7,7 +7,6 @@ use Rattle.base.specs.Laid.{laid_then}
 use Rattle.h265.specs.Strings.{bypass, rice_of}
 use Rattle.h265.specs.StringLaws.{length-bits, length-unary}
 use Rattle.h265.proofs.RiceLaws.{count_low, count-high}
-use borrow.Author.Rules.{rules}
 use Rattle.putcount.proofs.put_count.Goals as goal
 
 pub overflow_mul-p : goal.overflow_mul-p

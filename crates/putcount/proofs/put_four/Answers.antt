@@ -4,7 +4,6 @@ use native.Mathlib.Omega.{arith}
 use lib.Pow.{pow_pos}
 use Rattle.base.specs.Powers.{pow_next}
 use Rattle.h265.proofs.RiceLaws.{four-few, four-all}
-use borrow.Author.Rules.{rules}
 use Rattle.putcount.proofs.put_four.Goals as goal
 
 pub overflow_sub-pow2 : goal.overflow_sub-pow2

@@ -1,12 +1,6 @@
 -- `putescapes::next_escape`. The loop's invariant: no cell passed escapes.
-use Prim.Native.Nat.{◌-◌, ◌≤◌}
-use native.Mathlib.Omega.{arith}
-use Rattle.putescapes.specs.Cells.{Quiet, quiet_on}
-use borrow.Author.Rules.{rules}
+use Rattle.putescapes.specs.Cells.{Quiet}
 use Rattle.putescapes.proofs.next_escape.Given as goal
 
 abbrev pub invariant-loop-i : goal.invariant-loop-i
-invariant-loop-i l = (l.from ≤ l.i) × (l.i ≤ l.n) × Quiet l.block l.from l.i
-
-abbrev pub decreases-loop-i : goal.decreases-loop-i
-decreases-loop-i l = l.n - l.i
+invariant-loop-i l = Quiet l.block l.from l.i

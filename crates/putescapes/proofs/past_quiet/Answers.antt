@@ -1,8 +1,7 @@
 -- `putescapes::past_quiet`. The loop's invariant: no cell passed escapes.
-use Prim.Native.Nat.{◌+◌, ◌-◌, ◌≤◌}
+use Prim.Native.Nat.{◌+◌}
 use native.Mathlib.Omega.{arith}
-use Rattle.putescapes.specs.Cells.{Quiet, quiet_join}
-use borrow.Author.Rules.{rules}
+use Rattle.putescapes.specs.Cells.{quiet_join}
 use Rattle.putescapes.proofs.past_quiet.Goals as goal
 
 pub loop-i-init : goal.loop-i-init
@@ -14,9 +13,6 @@ overflow_add-i c = omega arith
 pub quiet-requires : goal.quiet-requires
 quiet-requires c = (c.requires.0, omega arith)
 
-pub overflow_add-i-then-quiet : goal.overflow_add-i-then-quiet
-overflow_add-i-then-quiet c = omega arith
-
 pub loop-i-smaller : goal.loop-i-smaller
 loop-i-smaller c = omega arith
 
@@ -26,5 +22,5 @@ loop-i-preserved c = let l = c.loop-i in (omega arith, omega arith, quiet_join c
 pub returns-else-quiet : goal.returns-else-quiet
 returns-else-quiet c = (omega arith, omega arith, c.loop-i.invariant.2)
 
-pub returns : goal.returns
-returns c = (omega arith, omega arith, c.loop-i.invariant.2)
+pub returns-after-loop-i : goal.returns-after-loop-i
+returns-after-loop-i c = (omega arith, omega arith, c.loop-i.invariant.2)

@@ -1,8 +1,6 @@
 -- `putescapes::past_quiet`. The loop's invariant: no cell passed escapes.
-use Prim.Native.Nat.{◌+◌, ◌-◌, ◌≤◌}
-use native.Mathlib.Omega.{arith}
-use Rattle.putescapes.specs.Cells.{Quiet, quiet_join}
-use borrow.Author.Rules.{rules}
+use Prim.Native.Nat.{◌-◌, ◌≤◌}
+use Rattle.putescapes.specs.Cells.{Quiet}
 use Rattle.putescapes.proofs.past_quiet.Given as goal
 
 abbrev pub invariant-loop-i : goal.invariant-loop-i

@@ -6,7 +6,6 @@ use Rattle.base.specs.Laid.{laid_none}
 use Rattle.flat.specs.Flat.{block_of}
 use Rattle.syntax.specs.Block.{level_bins}
 use Rattle.putescapes.specs.Cells.{level-at}
-use borrow.Author.Rules.{rules}
 use Rattle.putescapes.proofs.put_cell.Goals as goal
 
 pub due_at-requires : goal.due_at-requires

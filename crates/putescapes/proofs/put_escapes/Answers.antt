@@ -6,7 +6,6 @@ use lib.ListN.{take}
 use Rattle.base.specs.Laid.{laid_none}
 use Rattle.flat.specs.Flat.{block_of}
 use Rattle.putescapes.specs.Escapes.{levels-laid}
-use borrow.Author.Rules.{rules}
 use Rattle.putescapes.proofs.put_escapes.Goals as goal
 
 pub chroma_depth-d-requires : goal.chroma_depth-d-requires

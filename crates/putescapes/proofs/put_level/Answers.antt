@@ -1,7 +1,6 @@
 -- `putescapes::put_level`
 use native.Mathlib.Omega.{arith}
 use Rattle.h265.specs.StringLaws.{length-bits}
-use borrow.Author.Rules.{rules}
 use Rattle.putescapes.proofs.put_level.Goals as goal
 
 pub put_bits-requires : goal.put_bits-requires

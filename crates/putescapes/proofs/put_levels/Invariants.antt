@@ -1,13 +1,10 @@
 -- `putescapes::put_levels`. The invariant: the levels that are left, laid from here on, make the whole.
-use mathlib.Core.Path.{◌≡◌, refl, ◌∙◌}
+use mathlib.Core.Path.{◌≡◌}
 use Prim.Native.Nat.{◌+◌, ◌-◌, ◌*◌, ◌≤◌, ◌<◌}
-use native.Mathlib.Omega.{arith}
 use lib.ListN.{length}
-use Rattle.base.specs.Laid.{Left, left-start, left-turn, left_end}
+use Rattle.base.specs.Laid.{Left}
 use Rattle.flat.specs.Flat.{number, block_of}
 use Rattle.putescapes.specs.Escapes.{levels_from}
-use Rattle.putescapes.specs.Cells.{levels-here, levels-past, levels-none}
-use borrow.Author.Rules.{rules}
 use Rattle.putescapes.proofs.put_levels.Given as goal
 
 abbrev pub invariant-loop-i : goal.invariant-loop-i

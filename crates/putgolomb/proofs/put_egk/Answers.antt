@@ -1,14 +1,11 @@
 -- `putgolomb::put_egk`. The invariant: the rest of the value, coded from here on, makes the whole.
-use mathlib.Core.Path.{◌≡◌, refl, ◌∙◌}
-use Prim.Native.Nat.{◌+◌, ◌-◌, ◌^◌, ◌≤◌}
+use mathlib.Core.Path.{refl, ◌∙◌}
+use Prim.Native.Nat.{◌+◌}
 use native.Mathlib.Omega.{arith}
-use lib.ListN.{length}
 use lib.Pow.{pow_mono, pow_pos}
-use Rattle.base.specs.Laid.{Left, left-start, left-turn, left-last}
+use Rattle.base.specs.Laid.{left-start, left-turn, left-last}
 use Rattle.base.specs.Powers.{pow_next, exp_lt}
-use Rattle.h265.specs.Strings.{egk}
 use Rattle.h265.specs.StringLaws.{egk-turn, egk-last, length-bits}
-use borrow.Author.Rules.{rules}
 use Rattle.putgolomb.proofs.put_egk.Goals as goal
 
 pub pow2-p-requires : goal.pow2-p-requires

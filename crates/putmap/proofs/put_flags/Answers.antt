@@ -1,7 +1,6 @@
 -- `putmap::put_flags`
 use native.Mathlib.Omega.{arith}
 use Rattle.base.specs.Laid.{laid_then}
-use borrow.Author.Rules.{rules}
 use Rattle.putmap.proofs.put_flags.Goals as goal
 
 pub put_bin-q-requires : goal.put_bin-q-requires

@@ -6,7 +6,6 @@ use Prim.Native.Nat.{◌-◌}
 use Rattle.flat.specs.Flat.{block_of}
 use Rattle.syntax.specs.Records.{call_of}
 use Rattle.putpalette.specs.Palette.{entries-laid}
-use borrow.Author.Rules.{rules}
 use Rattle.putpalette.proofs.put_entries.Goals as goal
 
 pub chroma_depth-d-requires : goal.chroma_depth-d-requires

@@ -3,17 +3,17 @@ use mathlib.Core.List.{[]}
 use Prim.Native.Nat.{◌-◌}
 use native.Mathlib.Omega.{arith}
 use lib.ListN.{take}
+use Rattle.std.proofs.Common.{length-take-le}
 use Rattle.flat.specs.Flat.{number, block_of}
 use Rattle.syntax.specs.Records.{call_of}
 use Rattle.putpalette.specs.Palette.{palette_laid, palette_long}
-use borrow.Author.Rules.{rules}
 use Rattle.putpalette.proofs.put_palette.Goals as goal
 
 pub flags_of-flags-requires : goal.flags_of-flags-requires
 flags_of-flags-requires c = c.requires.0.block
 
 pub put_reuse-p-requires : goal.put_reuse-p-requires
-put_reuse-p-requires c = (omega arith, c.requires.0.flags, omega arith)
+put_reuse-p-requires c = (omega arith, omega (arith, c.requires.0.flags, length-take-le (number c.args.block.now 6) c.flags_of-flags.result (omega (arith, c.requires.0.flags))), omega arith)
 
 pub put_signalled-q-requires : goal.put_signalled-q-requires
 put_signalled-q-requires c = (omega (arith, c.requires.0.entries), omega (arith, c.put_reuse-p.ensures.near))

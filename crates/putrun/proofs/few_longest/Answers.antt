@@ -1,7 +1,6 @@
 -- `putrun::few_longest`: a digit of the definition's number.
 use mathlib.Core.Path.{refl}
 use Rattle.putrun.specs.Few.{few_longest}
-use borrow.Author.Rules.{rules}
 use Rattle.putrun.proofs.few_longest.Goals as goal
 
 pub returns : goal.returns

@@ -2,7 +2,6 @@
 use mathlib.Core.Path.{refl}
 use native.Mathlib.Omega.{arith}
 use Rattle.putrun.specs.Few.{few_size, few-most}
-use borrow.Author.Rules.{rules}
 use Rattle.putrun.proofs.few_size.Goals as goal
 
 pub returns : goal.returns

@@ -1,7 +1,6 @@
 -- `putrun::few_word`: classes and bits of the definition's.
 use Rattle.putrun.specs.Few.{few_bits, few_run}
 use native.Mathlib.Omega.{arith}
-use borrow.Author.Rules.{rules}
 use Rattle.putrun.proofs.few_word.Goals as goal
 
 pub returns : goal.returns

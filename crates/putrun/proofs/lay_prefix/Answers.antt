@@ -4,14 +4,10 @@ use Prim.Native.Nat.{◌+◌}
 use native.Mathlib.Omega.{arith}
 use Rattle.put.specs.Words.{length-bytes}
 use Rattle.putrun.specs.Few.{word-most, ones-most, prefix_bytes}
-use borrow.Author.Rules.{rules}
 use Rattle.putrun.proofs.lay_prefix.Goals as goal
 
 pub overflow_add-w : goal.overflow_add-w
 overflow_add-w c = omega (arith, c.word_of.ensures, c.ones_of.ensures, word-most c.args.above c.args.sent, ones-most c.args.ones)
-
-pub lay_word-requires : goal.lay_word-requires
-lay_word-requires c = (omega (arith, c.prefix_size.ensures.1), omega (arith, c.prefix_size.ensures.1))
 
 pub returns : goal.returns
 returns c = let e = prefix_bytes c.args.above c.args.sent c.args.ones c.args.most _ _ (omega arith) (omega arith) c.prefix_size.ensures.0 (ap₂ ◌+◌ c.word_of.ensures c.ones_of.ensures) in

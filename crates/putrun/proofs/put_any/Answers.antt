@@ -3,7 +3,6 @@ use native.Mathlib.Omega.{arith}
 use Rattle.base.specs.Laid.{laid_none, laid_then}
 use Rattle.h265.proofs.RunLaws.{runs_zero, runs-some, prefix_most}
 use Rattle.bins.specs.Logarithm.{flog-most}
-use borrow.Author.Rules.{rules}
 use Rattle.putrun.proofs.put_any.Goals as goal
 
 pub returns-then-longest-eq0 : goal.returns-then-longest-eq0

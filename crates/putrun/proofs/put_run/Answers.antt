@@ -1,10 +1,8 @@
 -- `putrun::put_run`: a short run as a word where there is room.
 use native.Mathlib.Omega.{arith}
 use Prim.Native.Nat.{◌≤◌}
-use Rattle.h265.specs.Strings.{run_bins}
-use Rattle.put.specs.Words.{bytes, length-bytes}
-use Rattle.putrun.specs.Few.{few_longest, few_size}
-use borrow.Author.Rules.{rules}
+use Rattle.put.specs.Words.{length-bytes}
+use Rattle.putrun.specs.Few.{few_longest}
 use Rattle.putrun.proofs.put_run.Goals as goal
 
 pub lay_word-requires : goal.lay_word-requires

@@ -9,7 +9,6 @@ use Rattle.h265.specs.StringLaws.{flog-low, flog-high, length-bits}
 use Rattle.h265.proofs.RunLaws.{suffix_in, suffix_is}
 use Rattle.bins.specs.Logarithm.{flog-most, suffixes-all}
 use Rattle.putrun.specs.Plain.{tb_plain}
-use borrow.Author.Rules.{rules}
 use Rattle.putrun.proofs.put_suffix.Goals as goal
 
 pub returns-then-more-eq0 : goal.returns-then-more-eq0

@@ -1,19 +1,11 @@
 -- `putrun::word_of`: the four words.
-use native.Mathlib.Omega.{arith}
 use Rattle.h265.specs.Strings.{run_class}
 use Rattle.putrun.specs.Word.{word_from, word_steps}
-use borrow.Author.Rules.{rules}
 use Rattle.putrun.proofs.word_of.Goals as goal
 
 pub returns-then-above : goal.returns-then-above
 unfolding word_from run_class
 returns-then-above c = rw c.if-above.true
-
-pub overflow_add-result : goal.overflow_add-result
-overflow_add-result c = omega (arith, c.past.ensures.1)
-
-pub overflow_add-result-2 : goal.overflow_add-result-2
-overflow_add-result-2 c = omega (arith, c.past.ensures.1, c.past-2.ensures.1)
 
 pub returns : goal.returns
 returns c = rw (c.if-above.false, c.past.ensures.0, c.past-2.ensures.0) (word_steps c.args.sent)

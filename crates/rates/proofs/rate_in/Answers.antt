@@ -1,14 +1,8 @@
-use mathlib.Core.Path.{◌≡◌, refl, sym, ap, ◌∙◌}
-use mathlib.Core.Bool.{Bool, true, false, ◌&&◌}
-use mathlib.Core.List.{List, [], ◌∷◌}
-use Prim.Native.Nat.{ℕ, suc, ◌+◌, ◌-◌, ◌*◌, ◌/◌, ◌%◌, ◌^◌, ◌≤◌, ◌<◌}
-use native.Mathlib.Omega.{arith}
-use borrow.Author.Tests.{lt-ltb, le-ltb, eq-eqb, ne_eqb, le-leb, lt-leb}
+use mathlib.Core.List.{[], ◌∷◌}
 use lib.Ieee.{le}
 use Rattle.base.specs.Tests.{ands-every}
 use Rattle.base.specs.Upto.{literal_0, literal_64, number}
 use Rattle.rates.specs.Rates.{rate_in}
-use borrow.Author.Rules.{rules}
 use Rattle.rates.proofs.rate_in.Goals as goal
 
 pub returns : goal.returns

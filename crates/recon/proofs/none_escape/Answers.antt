@@ -1,26 +1,10 @@
--- `recon::none_escape`. The loop's invariant: the test of the indices passed.
-use mathlib.Core.Path.{◌≡◌, ◌∙◌, sym}
-use mathlib.Core.Bool.{not}
-use Prim.Native.Nat.{◌≤◌, ◌-◌}
-use native.Mathlib.Omega.{arith}
-use lib.Dec.{eqb}
-use lib.ListN.{get_or}
-use Rattle.base.specs.Tests.{up_to, up_to-none, up_to-next, and_pick}
-use borrow.Author.Rules.{rules}
+-- `recon::none_escape`: the test of one index more.
+use Rattle.std.proofs.Common.{◌∙◌, sym}
+use Rattle.base.specs.Tests.{up_to-none, up_to-next, and_pick}
 use Rattle.recon.proofs.none_escape.Goals as goal
 
-pub loop-i-init : goal.loop-i-init
-loop-i-init c = (omega arith, sym (up_to-none _))
+pub loop-k-init : goal.loop-k-init
+loop-k-init c = sym (up_to-none _)
 
-pub overflow_add-i : goal.overflow_add-i
-overflow_add-i c = omega arith
-
-pub loop-i-smaller : goal.loop-i-smaller
-loop-i-smaller c = omega arith
-
-pub loop-i-preserved : goal.loop-i-preserved
-loop-i-preserved c = let l = c.loop-i in (omega arith, and_pick l.ok _ ∙ rw (c.differs-ok.ensures, l.invariant.1) (sym (up_to-next _ l.i)))
-
-pub returns : goal.returns
-returns c = let e : c.loop-i.i ≡ c.args.m = omega arith in
-    rw e at c.loop-i.invariant.1
+pub loop-k-preserved : goal.loop-k-preserved
+loop-k-preserved c = let l = c.loop-k in and_pick l.ok _ ∙ rw (c.from.ensures, l.invariant) (sym (up_to-next _ l.k-index))

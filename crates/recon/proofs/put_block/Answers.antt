@@ -1,14 +1,12 @@
 -- `recon::put_block`: the colours of the cells that lie in the planes, then plane by plane.
-use mathlib.Core.Path.{◌≡◌, refl, ap, sym, ◌∙◌}
+use mathlib.Core.Path.{refl}
 use Prim.Native.Nat.{ℕ, ◌*◌, ◌≤◌}
 use native.Mathlib.Nat.{mul-le-mul}
 use native.Mathlib.Omega.{arith}
 use lib.ListN.{length, replicate, length-replicate}
-use Rattle.base.specs.Cells.{laid-length}
 use Rattle.onto.specs.Laws.{scan_rows}
-use Rattle.recon.specs.Recon.{cell_color, luma_onto, chroma_onto}
+use Rattle.recon.specs.Recon.{chroma_onto}
 use Rattle.recon.specs.Laws.{cells-room, luma_sized, chroma-sized, taken, luma_made, chroma-made}
-use borrow.Author.Rules.{rules}
 use Rattle.recon.proofs.put_block.Goals as goal
 
 pub block_rows-n-requires : goal.block_rows-n-requires
@@ -33,9 +31,6 @@ cell_colors-requires c = let s = c.args in
     let q : c.block_rows-n.result * s.cu.size ≤ 32 * 32 = mul-le-mul h t.small in
     (c.requires.0.config, omega (arith, q))
 
-pub slice_bounds-put_plane-end : goal.slice_bounds-put_plane-end
-slice_bounds-put_plane-end c = omega (arith, ap length c.cell_colors.ensures ∙ laid-length (cell_color c.args.c c.args.cu) (replicate 1024 0) 0 (c.block_rows-n.result * c.args.cu.size) ∙ length-replicate {A = ℕ} 1024 0)
-
 pub put_plane-requires : goal.put_plane-requires
 put_plane-requires c = let s = c.args in
     let t = taken s.ys s.cs s.c s.g s.cu (length s.luma.now) (length s.cb.now) (length s.cr.now) c.requires.0 c.requires.1 in
@@ -43,9 +38,6 @@ put_plane-requires c = let s = c.args in
     let z : s.cu.size * s.cu.size ≤ length (replicate {A = ℕ} 1024 0) = omega (arith, q, length-replicate {A = ℕ} 1024 0) in
     let w = cells-room _ (replicate 1024 0) _ _ s.cu.size c.cell_colors.ensures z in
     rw c.luma_onto-l.ensures (t.luma, w)
-
-pub slice_bounds-put_chroma-end : goal.slice_bounds-put_chroma-end
-slice_bounds-put_chroma-end c = omega (arith, ap length c.cell_colors.ensures ∙ laid-length (cell_color c.args.c c.args.cu) (replicate 1024 0) 0 (c.block_rows-n.result * c.args.cu.size) ∙ length-replicate {A = ℕ} 1024 0)
 
 pub put_chroma-requires : goal.put_chroma-requires
 put_chroma-requires c = let s = c.args in

@@ -1,12 +1,6 @@
-use mathlib.Core.Path.{◌≡◌, refl, sym, ap, ◌∙◌}
-use mathlib.Core.Bool.{Bool, true, false}
-use Prim.Native.Nat.{ℕ, suc, ◌+◌, ◌-◌, ◌*◌, ◌≤◌, ◌<◌}
-use native.Mathlib.Omega.{arith}
-use lib.ListN.{get_or}
-use borrow.Author.Tests.{lt-ltb, le-ltb, eq-eqb, ne_eqb}
+use borrow.Author.Tests.{eq-eqb, ne_eqb}
 use Rattle.base.specs.Upto.{literal_0}
 use Rattle.relax.specs.Jumps.{copy_from}
-use borrow.Author.Rules.{rules}
 use Rattle.relax.proofs.copy_bits.Goals as goal
 
 pub returns-then-q-n : goal.returns-then-q-n

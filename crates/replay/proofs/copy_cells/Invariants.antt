@@ -1,19 +1,7 @@
--- `replay::copy_cells`. What is left to copy makes the whole.
-use mathlib.Core.Path.{◌≡◌, refl, sym, ap, ◌∙◌}
-use mathlib.Core.Bool.{Bool, true, false}
-use mathlib.Core.List.{List, [], ◌∷◌, ◌++◌}
-use Prim.Native.Nat.{ℕ, suc, ◌+◌, ◌-◌, ◌*◌, ◌/◌, ◌≤◌, ◌<◌}
-use native.Mathlib.Omega.{arith}
-use native.Mathlib.Nat.{sub-zero, div-mul-le_self}
-use lib.ListN.{length, take, drop, get_or, set}
-use borrow.Author.Tests.{lt-ltb, le-ltb, eq-eqb, ne_eqb, lt-leb, le-leb}
-use Rattle.base.specs.Pick.{pick}
-use Rattle.replay.specs.Into.{copy_into, copy_turn, copy_end}
-use borrow.Author.Rules.{rules}
+-- `replay::copy_cells`: what is left to copy makes the whole.
+use Rattle.std.proofs.Common.{◌≡◌, ◌-◌}
+use Rattle.replay.specs.Into.{copy_into}
 use Rattle.replay.proofs.copy_cells.Given as goal
 
 abbrev pub invariant-loop-i : goal.invariant-loop-i
-invariant-loop-i l = (l.from ≤ l.i) × (l.i ≤ l.to) × (copy_into l.size (l.to - l.i) l.i l.cells ≡ copy_into l.size (l.to - l.from) l.from l.initial.cells)
-
-abbrev pub decreases-loop-i : goal.decreases-loop-i
-decreases-loop-i l = l.to - l.i
+invariant-loop-i l = copy_into l.size (l.to - l.i) l.i l.cells ≡ copy_into l.size (l.to - l.from) l.from l.initial.cells

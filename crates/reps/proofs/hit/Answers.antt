@@ -1,8 +1,12 @@
 -- `reps::hit`: tried one by one, unless none is near. Assumes nothing.
-use native.Mathlib.Omega.{arith}
-use Rattle.reps.specs.Near.{no_hit}
-use borrow.Author.Rules.{rules}
+use Rattle.std.proofs.Common.{◌∙◌, ap}
+use Rattle.reps.specs.Reps.{place_in}
+use Rattle.reps.specs.Laws.{hit_place}
+use Rattle.reps.specs.Near.{no_hit_in}
 use Rattle.reps.proofs.hit.Goals as goal
 
-pub returns-then-tol-le7 : goal.returns-then-tol-le7
-returns-then-tol-le7 c = (no_hit c.args.tol c.args.e c.args.list.now c.args.n (omega (arith, c.requires.0, c.requires.1)) (c.near.ensures c.if-near.false), omega arith)
+pub returns-then-not-near-clause-place : goal.returns-then-not-near-clause-place
+returns-then-not-near-clause-place c = no_hit_in c.args.tol c.args.e c.args.list.now (c.near.ensures c.if-not-near.true)
+
+pub returns-clause-place : goal.returns-clause-place
+returns-clause-place c = ap (place_in c.args.list.now) c.scan.ensures ∙ hit_place c.args.tol c.args.e c.args.list.now

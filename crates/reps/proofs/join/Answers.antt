@@ -1,15 +1,19 @@
 -- `reps::join`: no room, or one is near, or it is new. Assumes nothing.
-use mathlib.Core.Path.{sym, ◌∙◌}
-use native.Mathlib.Omega.{arith}
-use Rattle.reps.specs.Turns.{join_full, join-near, join_new}
-use borrow.Author.Rules.{rules}
+use Rattle.std.proofs.Common.{sym, ◌∙◌, arith}
+use Rattle.reps.specs.Turns.{len, found-below, found-none, join_full, join-near, join_new}
 use Rattle.reps.proofs.join.Goals as goal
+use Rattle.reps.proofs.join.Goals.{then-n-limit-via-then-n-limit, then-n-limit-via-else-n-limit+then-is_some}
 
 pub returns-then-n-limit : goal.returns-then-n-limit
-returns-then-n-limit c = join_full _ _ _ _ _ c.requires.0 c.requires.1 c.requires.2 c.if-n-limit.true
-
-pub returns-then-hit-n : goal.returns-then-hit-n
-returns-then-hit-n c = join-near _ _ _ _ _ c.requires.0 c.requires.1 c.requires.2 (omega (arith, c.if-hit-n.true, c.hit.ensures.0))
+returns-then-n-limit c =
+    elim c.then-n-limit.branch [
+      | then-n-limit-via-then-n-limit w ↦ join_full _ _ _ _ _ c.requires.0 c.requires.1 c.told-list w.if-n-limit.true
+      | then-n-limit-via-else-n-limit+then-is_some w ↦
+          let h = found-below _ _ _ w.hit.ensures.place w.hit.ensures.below (sym w.if-is_some.true ∙ w.is_some.ensures) in
+          join-near _ _ _ _ _ c.requires.0 c.requires.1 c.told-list (omega (arith, h, len c.args.tol c.args.limit c.args.c c.args.n c.args.list.now c.requires.0 c.requires.1 c.told-list))
+    ]
 
 pub returns : goal.returns
-returns c = join_new _ _ _ _ _ c.requires.0 c.requires.1 c.requires.2 c.if-n-limit.false (omega (arith, c.if-hit-n.false, c.hit.ensures.0))
+returns c =
+    let h = found-none _ _ _ c.hit.ensures.place (sym c.if-is_some.false ∙ c.is_some.ensures) in
+    join_new _ _ _ _ _ c.requires.0 c.requires.1 c.told-list c.if-n-limit.false (omega (arith, h, len c.args.tol c.args.limit c.args.c c.args.n c.args.list.now c.requires.0 c.requires.1 c.told-list))

@@ -1,69 +1,31 @@
--- `rules::copied_run`. The loop's invariant: the cells passed were tested.
-use mathlib.Core.Path.{◌≡◌, sym, ◌∙◌}
-use Prim.Native.Nat.{◌+◌, ◌-◌, ◌<◌, ◌≤◌}
-use native.Mathlib.Omega.{arith}
-use lib.Dec.{eqb}
-use lib.ListN.{drop}
-use Rattle.rules.specs.Words.{same, cell_at, same_none, same-on, same-early, word-drop, word_same, first-same, copied-same}
-use borrow.Author.Rules.{rules}
+-- `rules::copied_run`: the cells passed were tested.
+use Rattle.std.proofs.Common.{◌∙◌, ◌+◌, ◌-◌, arith}
+use Rattle.rules.specs.Words.{cell_at, same_none, same-on, same-early, word_same, first-same, copied-same}
 use Rattle.rules.proofs.copied_run.Goals as goal
 
 pub loop-i-init : goal.loop-i-init
-loop-i-init c = (omega arith, omega arith, same_none (cell_at (drop c.args.from c.args.cells.now)) (cell_at c.args.up.now) (c.args.at - c.args.at) c.args.at (omega arith))
-
-pub overflow_add-i : goal.overflow_add-i
-overflow_add-i c = omega arith
-
-pub overflow_add-from : goal.overflow_add-from
-overflow_add-from c = omega arith
-
-pub word-a-requires : goal.word-a-requires
-word-a-requires c = omega arith
-
-pub word-b-requires : goal.word-b-requires
-word-b-requires c = omega arith
+loop-i-init c = (omega arith, omega arith, same_none (cell_at c.args.cells.now) (cell_at c.args.up.now) (c.args.at - c.args.at) c.args.at (omega arith))
 
 pub returns-then-bad-ne0 : goal.returns-then-bad-ne0
-returns-then-bad-ne0 c = let g = c.args in
+returns-then-bad-ne0 c =
+    let g = c.args in
     let l = c.loop-i in
-    let xs = drop g.from g.cells.now in
-    let e = word_same (cell_at xs) (cell_at g.up.now) l.i _ _ (word-drop g.from g.cells.now l.i _ c.word-a.ensures) c.word-b.ensures (l.i + 4 - l.i) (omega arith) in
-    let s = same-on (cell_at xs) (cell_at g.up.now) l.bad _ g.at l.i (l.i + 4) l.invariant.0 (omega arith) l.invariant.2 e in
-    let t = same-early (cell_at xs) (cell_at g.up.now) _ g.at (l.i + 4) g.to (omega arith) (omega arith) c.if-bad-ne0.true s in
-    λ size a. t ∙ copied-same size xs g.up.now (g.to - g.at) g.at (λ i h. a i (omega arith))
-
-pub overflow_add-i-in-loop-i : goal.overflow_add-i-in-loop-i
-overflow_add-i-in-loop-i c = omega arith
-
-pub loop-i-smaller : goal.loop-i-smaller
-loop-i-smaller c = omega arith
+    let e = word_same (cell_at g.cells.now) (cell_at g.up.now) l.i _ _ c.word-a.ensures c.word-b.ensures (l.i + 4 - l.i) (omega arith) in
+    let s = same-on (cell_at g.cells.now) (cell_at g.up.now) l.bad _ g.at l.i (l.i + 4) l.invariant.0 (omega arith) l.invariant.2 e in
+    let t = same-early (cell_at g.cells.now) (cell_at g.up.now) _ g.at (l.i + 4) g.to (omega arith) (omega arith) c.if-bad-ne0.true s in
+    λ size a. t ∙ copied-same size g.cells.now g.up.now (g.to - g.at) g.at (λ i h. a i (omega arith))
 
 pub loop-i-preserved : goal.loop-i-preserved
-loop-i-preserved c = let g = c.args in
+loop-i-preserved c =
+    let g = c.args in
     let l = c.loop-i in
-    let xs = drop g.from g.cells.now in
-    let e = word_same (cell_at xs) (cell_at g.up.now) l.i _ _ (word-drop g.from g.cells.now l.i _ c.word-a.ensures) c.word-b.ensures (l.i + 4 - l.i) (omega arith) in
-    (omega arith, omega arith, same-on (cell_at xs) (cell_at g.up.now) l.bad _ g.at l.i (l.i + 4) l.invariant.0 (omega arith) l.invariant.2 e)
-
-pub overflow_add-from-2 : goal.overflow_add-from-2
-overflow_add-from-2 c = omega arith
-
-pub word-a-requires-2 : goal.word-a-requires-2
-word-a-requires-2 c = omega arith
-
-pub word-b-requires-2 : goal.word-b-requires-2
-word-b-requires-2 c = omega arith
-
-pub overflow_sub-to : goal.overflow_sub-to
-overflow_sub-to c = omega arith
-
-pub first_differ-last-requires : goal.first_differ-last-requires
-first_differ-last-requires c = omega arith
+    let e = word_same (cell_at g.cells.now) (cell_at g.up.now) l.i _ _ c.word-a.ensures c.word-b.ensures (l.i + 4 - l.i) (omega arith) in
+    (omega arith, omega arith, same-on (cell_at g.cells.now) (cell_at g.up.now) l.bad _ g.at l.i (l.i + 4) l.invariant.0 (omega arith) l.invariant.2 e)
 
 pub returns : goal.returns
-returns c = let g = c.args in
+returns c =
+    let g = c.args in
     let l = c.loop-i in
-    let xs = drop g.from g.cells.now in
-    let e = c.first_differ-last.ensures ∙ first-same (cell_at xs) (cell_at g.up.now) l.i _ _ (word-drop g.from g.cells.now l.i _ c.word-a-2.ensures) c.word-b-2.ensures (g.to - l.i) (omega arith) (omega arith) in
-    let t = same-on (cell_at xs) (cell_at g.up.now) l.bad _ g.at l.i g.to l.invariant.0 (omega arith) l.invariant.2 e in
-    λ size a. t ∙ copied-same size xs g.up.now (g.to - g.at) g.at (λ i h. a i (omega arith))
+    let e = c.first_differ.ensures ∙ first-same (cell_at g.cells.now) (cell_at g.up.now) l.i _ _ c.word-a-2.ensures c.word-b-2.ensures (g.to - l.i) (omega arith) (omega arith) in
+    let t = same-on (cell_at g.cells.now) (cell_at g.up.now) l.bad _ g.at l.i g.to l.invariant.0 (omega arith) l.invariant.2 e in
+    λ size a. t ∙ copied-same size g.cells.now g.up.now (g.to - g.at) g.at (λ i h. a i (omega arith))

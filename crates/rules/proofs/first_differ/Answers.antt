@@ -1,7 +1,6 @@
 -- `rules::first_differ`
 use native.Mathlib.Omega.{arith}
 use Rattle.rules.specs.Words.{shifted_none}
-use borrow.Author.Rules.{rules}
 use Rattle.rules.proofs.first_differ.Goals as goal
 
 pub returns : goal.returns

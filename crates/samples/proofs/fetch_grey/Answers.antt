@@ -1,36 +1,25 @@
--- `samples::fetch_grey`. The loop's invariant: the rows passed are laid, and a is where the next one starts.
-use mathlib.Core.Path.{◌≡◌, sym, ◌∙◌}
-use Prim.Native.Nat.{◌+◌, ◌-◌, ◌*◌, ◌≤◌, ◌<◌}
-use native.Mathlib.Nat.{suc-mul}
-use native.Mathlib.Omega.{arith}
-use Rattle.base.specs.Cells.{laid, laid_none, laid_done, row_small}
-use Rattle.samples.specs.Laws.{luma_cell, grey-turn}
-use borrow.Author.Rules.{rules}
+-- `samples::fetch_grey`: one row more, and all of them.
+use Rattle.std.proofs.Common.{◌≡◌, ◌+◌, ◌*◌, ◌-◌, ◌<◌, min, refl, sym, arith}
+use Rattle.base.specs.Cells.{laid_none, row_small}
+use Rattle.std.proofs.Math.Nat.{suc-mul}
+use Rattle.samples.specs.Laws.{grey-turn}
+use Rattle.samples.specs.Rows.{grey_laid}
 use Rattle.samples.proofs.fetch_grey.Goals as goal
 
 pub loop-y-init : goal.loop-y-init
-loop-y-init c = (omega arith, omega arith, sym (laid_none _ _ _))
-
-pub row_grey-requires : goal.row_grey-requires
-row_grey-requires c = let h : c.loop-y.y < c.args.g.size = omega arith in
-    record {
-      le_w = omega (arith, row_small c.loop-y.y c.args.g.size h c.requires.size_bound.0);
-      x0_bound = omega (arith, row_small c.loop-y.y c.args.g.size h c.requires.size_bound.0);
-    }
-
-pub overflow_add-a : goal.overflow_add-a
-overflow_add-a c = let h : c.loop-y.y < c.args.g.size = omega arith in
-    omega (arith, row_small c.loop-y.y c.args.g.size h c.requires.size_bound.0)
+loop-y-init c = let z : 0 * c.args.g.size ≡ 0 = omega arith in rw z (sym (laid_none _ _ _))
 
 pub loop-y-preserved : goal.loop-y-preserved
 loop-y-preserved c = let l = c.loop-y in
     let s = c.args in
-    let p = c.requires in
-    let e = c.row_grey.ensures in (
-      omega arith,
-      omega (arith, suc-mul l.y s.g.size),
-      grey-turn s.luma.now s.g l.y c.row_start-base.result l.a s.out.now l.out c.row_grey.new.out p.size_bound.1 p.size_bound.2 l.invariant.1 c.row_start-base.ensures.0 l.invariant.2 e,
-    )
+    let p = c.requires.size_bound in
+    let b = min (s.g.y0 + l.y) (s.g.yh - 1) * s.g.yw in
+    let h : l.y < s.g.size = omega arith in
+    let z : (l.y + 1) * s.g.size ≡ l.y * s.g.size + s.g.size = omega (arith, suc-mul l.y s.g.size) in
+    let n = row_small l.y s.g.size h p.0 in
+    rw z
+    (grey-turn s.luma.now s.g l.y b (l.y * s.g.size) s.out.now l.out _ p.1 p.2 refl refl l.invariant
+    (grey_laid s.luma.now c.row.result.now l.out c.row_grey.new.cells b s.g.yw s.g.x0 (l.y * s.g.size) s.g.size p.1 c.row.ensures.0 c.row.ensures.1 (omega arith) c.row_grey.ensures))
 
 pub returns : goal.returns
-returns c = let e : c.loop-y.y ≡ c.args.g.size = omega arith in laid_done _ _ _ _ _ _ c.loop-y.invariant.2 (c.loop-y.invariant.1 ∙ rw e)
+returns c = let e : c.loop-y.y ≡ c.args.g.size = omega arith in rw e at c.loop-y.invariant

@@ -1,15 +1,8 @@
--- `samples::fetch_grey`. The loop's invariant: the rows passed are laid, and a is where the next one starts.
-use mathlib.Core.Path.{◌≡◌, sym, ◌∙◌}
-use Prim.Native.Nat.{◌+◌, ◌-◌, ◌*◌, ◌≤◌, ◌<◌}
-use native.Mathlib.Nat.{suc-mul}
-use native.Mathlib.Omega.{arith}
-use Rattle.base.specs.Cells.{laid, laid_none, laid_done, row_small}
-use Rattle.samples.specs.Laws.{luma_cell, grey-turn}
-use borrow.Author.Rules.{rules}
+-- `samples::fetch_grey`: the rows passed are laid.
+use Rattle.std.proofs.Common.{◌≡◌, ◌*◌}
+use Rattle.base.specs.Cells.{laid}
+use Rattle.samples.specs.Laws.{luma_cell}
 use Rattle.samples.proofs.fetch_grey.Given as goal
 
 abbrev pub invariant-loop-y : goal.invariant-loop-y
-invariant-loop-y l = (l.y ≤ l.size) × (l.a ≡ l.y * l.size) × (l.out ≡ laid (luma_cell l.luma l.g) l.initial.out 0 l.a)
-
-abbrev pub decreases-loop-y : goal.decreases-loop-y
-decreases-loop-y l = l.size - l.y
+invariant-loop-y l = l.out ≡ laid (luma_cell l.luma l.g) l.fn.out 0 (l.y * l.g.size)

@@ -1,14 +1,8 @@
--- `samples::row_grey`. The loop's invariant: the columns passed are laid.
-use mathlib.Core.Path.{◌≡◌, sym, ◌∙◌}
-use Prim.Native.Nat.{◌+◌, ◌-◌, ◌≤◌}
-use native.Mathlib.Omega.{arith}
-use Rattle.base.specs.Cells.{laid, laid_none, laid-step, laid_done}
-use Rattle.samples.specs.Laws.{grey_cell, grey-at}
-use borrow.Author.Rules.{rules}
+-- `samples::row_grey`: the columns passed are laid.
+use Rattle.std.proofs.Common.{◌≡◌, length}
+use Rattle.base.specs.Cells.{laid}
+use Rattle.samples.specs.Laws.{grey_cell}
 use Rattle.samples.proofs.row_grey.Given as goal
 
 abbrev pub invariant-loop-c : goal.invariant-loop-c
-invariant-loop-c l = (l.c ≤ l.size) × (l.out ≡ laid (grey_cell l.luma l.base l.w l.x0 l.a) l.initial.out l.a l.c)
-
-abbrev pub decreases-loop-c : goal.decreases-loop-c
-decreases-loop-c l = l.size - l.c
+invariant-loop-c l = l.cells ≡ laid (grey_cell l.luma 0 (length l.luma) l.x0 0) l.fn.cells 0 (l.c)

@@ -1,23 +1,18 @@
--- `samples::row_held`. The loop's invariant: the columns passed are laid.
-use mathlib.Core.Path.{◌≡◌, sym, ◌∙◌}
-use Prim.Native.Nat.{◌+◌, ◌-◌, ◌≤◌}
-use native.Mathlib.Omega.{arith}
-use Rattle.base.specs.Cells.{laid, laid_none, laid-step, laid_done}
-use Rattle.samples.specs.Laws.{color_cell, color_at_lem}
-use borrow.Author.Rules.{rules}
+-- `samples::row_held`: one column more, and all of them.
+use Rattle.std.proofs.Common.{◌≡◌, ◌-◌, length, sym, ◌∙◌, arith}
+use Rattle.base.specs.Cells.{laid_none, laid_done, laid_on_lem}
+use Rattle.samples.specs.Laws.{color_cell}
 use Rattle.samples.proofs.row_held.Goals as goal
 
 pub loop-c-init : goal.loop-c-init
-loop-c-init c = (omega arith, sym (laid_none _ _ _))
+loop-c-init c = sym (laid_none _ _ _)
 
 pub loop-c-preserved : goal.loop-c-preserved
 loop-c-preserved c = let s = c.args in
-    let l = c.loop-c in (
-      omega arith,
-      laid-step (color_cell s.luma.now s.cb.now s.cr.now s.base s.w s.cbase s.cw s.x0 s.by s.a) s.out.now l.out s.a l.c c.pack-p.result l.invariant.1
-          (c.pack-p.ensures ∙ rw (c.in_row-y.ensures, c.in_row-u.ensures, c.in_row-v.ensures, c.down-d.ensures)
-          (color_at_lem s.luma.now s.cb.now s.cr.now s.base s.w s.cbase s.cw s.x0 s.by s.a l.c)),
-    )
+    let l = c.loop-c in
+    let e : l.c - 0 ≡ l.c = omega arith in
+    laid_on_lem (color_cell s.luma.now s.cb.now s.cr.now 0 (length s.luma.now) 0 (length s.cb.now) s.x0 s.by 0) s.cells.now l.cells l.c c.pack.result l.invariant
+    (rw e (c.pack.ensures ∙ rw (c.in_row.ensures, c.in_row-in-loop-c.ensures, c.in_row-in-loop-c-2.ensures, c.down-d.ensures, c.requires.rows.2)))
 
 pub returns : goal.returns
-returns c = laid_done _ _ _ _ _ _ c.loop-c.invariant.1 (omega arith)
+returns c = laid_done _ _ _ _ _ _ c.loop-c.invariant (omega arith)

@@ -1,14 +1,8 @@
--- `samples::row_whole`. The loop's invariant: the columns passed are laid.
-use mathlib.Core.Path.{◌≡◌, sym, ◌∙◌}
-use Prim.Native.Nat.{◌+◌, ◌-◌, ◌≤◌}
-use native.Mathlib.Omega.{arith}
-use Rattle.base.specs.Cells.{laid, laid_none, laid-step, laid_done}
-use Rattle.samples.specs.Laws.{color_cell, color_at_lem, whole-at}
-use borrow.Author.Rules.{rules}
+-- `samples::row_whole`: the columns passed are laid.
+use Rattle.std.proofs.Common.{◌≡◌, length}
+use Rattle.base.specs.Cells.{laid}
+use Rattle.samples.specs.Laws.{color_cell}
 use Rattle.samples.proofs.row_whole.Given as goal
 
 abbrev pub invariant-loop-c : goal.invariant-loop-c
-invariant-loop-c l = (l.c ≤ l.size) × (l.out ≡ laid (color_cell l.luma l.cb l.cr l.base l.w l.cbase l.cw l.x0 1 l.a) l.initial.out l.a l.c)
-
-abbrev pub decreases-loop-c : goal.decreases-loop-c
-decreases-loop-c l = l.size - l.c
+invariant-loop-c l = l.cells ≡ laid (color_cell l.luma l.cb l.cr 0 (length l.luma) 0 (length l.cb) l.x0 1 0) l.fn.cells 0 (l.c)

@@ -1,9 +1,6 @@
 -- `smooth::chroma_at`: by the format.
-use mathlib.Core.Path.{◌≡◌}
-use native.Mathlib.Omega.{arith}
 use Rattle.h265.specs.Scan.{col_of, row_of}
 use Rattle.smooth.specs.Laws.{chroma-none, chroma-all, chroma-columns, chroma-cells}
-use borrow.Author.Rules.{rules}
 use Rattle.smooth.proofs.chroma_at.Goals as goal
 
 pub returns-then-format-eq0 : goal.returns-then-format-eq0

@@ -1,15 +1,8 @@
 -- `smoothcosts::run_above_fits`. The loop's invariant: the indices above the places passed fit.
-use mathlib.Core.Bool.{true, false}
-use mathlib.Core.Path.{◌≡◌, sym, ◌∙◌}
-use Prim.Native.Nat.{ℕ, ◌+◌, ◌-◌, ◌≤◌}
-use native.Mathlib.Omega.{arith}
-use Rattle.base.specs.Tests.{up_to, up_to-none, up_to-next, up_to_fails}
+use Rattle.std.proofs.Common.{◌≡◌, ℕ, ◌+◌, ◌-◌, true}
+use Rattle.base.specs.Tests.{up_to}
 use Rattle.smooth.specs.Smooth.{above_fits}
-use borrow.Author.Rules.{rules}
 use Rattle.smoothcosts.proofs.run_above_fits.Given as goal
 
-abbrev pub invariant-loop-j : goal.invariant-loop-j
-invariant-loop-j l = (l.j ≤ l.len) × (up_to l.j (λ (i : ℕ). above_fits l.size l.escape l.tol l.palette l.cells l.indices l.value (l.start + i)) ≡ true)
-
-abbrev pub decreases-loop-j : goal.decreases-loop-j
-decreases-loop-j l = l.len - l.j
+abbrev pub invariant-loop-i : goal.invariant-loop-i
+invariant-loop-i l = up_to (l.i - l.start) (λ (j : ℕ). above_fits l.s.size l.s.escape l.s.tolerance l.s.palette.now l.s.cells.now l.indices l.value (l.start + j)) ≡ true

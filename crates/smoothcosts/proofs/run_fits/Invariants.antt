@@ -1,16 +1,8 @@
 -- `smoothcosts::run_fits`. The loop's invariant: the samples passed fit.
-use mathlib.Core.Bool.{true, false}
-use mathlib.Core.Path.{◌≡◌, sym, ◌∙◌}
-use Prim.Native.Nat.{ℕ, ◌+◌, ◌-◌, ◌≤◌}
-use native.Mathlib.Omega.{arith}
-use borrow.Author.Tests.{le-leb, lt-leb}
-use Rattle.base.specs.Tests.{up_to, up_to-none, up_to-next, up_to_fails}
+use Rattle.std.proofs.Common.{◌≡◌, ℕ, ◌+◌, true}
+use Rattle.base.specs.Tests.{up_to}
 use Rattle.smooth.specs.Smooth.{fits}
-use borrow.Author.Rules.{rules}
 use Rattle.smoothcosts.proofs.run_fits.Given as goal
 
-abbrev pub invariant-loop-j : goal.invariant-loop-j
-invariant-loop-j l = (l.j ≤ l.len) × (up_to l.j (λ (i : ℕ). fits l.cells l.tol l.entry (l.start + i)) ≡ true)
-
-abbrev pub decreases-loop-j : goal.decreases-loop-j
-decreases-loop-j l = l.len - l.j
+abbrev pub invariant-loop-cell : goal.invariant-loop-cell
+invariant-loop-cell l = up_to l.cell-index (λ (j : ℕ). fits l.s.cells.now l.s.tolerance l.entry (l.start + j)) ≡ true

@@ -1,28 +1,11 @@
--- `smoothmoves::fill`. The loop's invariant: the places passed are laid.
-use mathlib.Core.Path.{◌≡◌, sym, refl}
-use Prim.Native.Nat.{ℕ, ◌+◌, ◌-◌, ◌≤◌}
-use native.Mathlib.Omega.{arith}
-use Rattle.base.specs.Cells.{laid, laid_none, laid-step, laid_done}
-use borrow.Author.Rules.{rules}
+-- `smoothmoves::fill`: the run's part of the list, filled.
+use Rattle.std.proofs.Common.{ℕ, ◌+◌, ◌-◌, take, drop, refl, ◌∙◌, arith}
+use Rattle.samples.specs.Rows.{row_laid}
+use Rattle.smoothmoves.proofs.Filled.{filled}
 use Rattle.smoothmoves.proofs.fill.Goals as goal
 
-pub loop-j-init : goal.loop-j-init
-loop-j-init c = (omega arith, sym (laid_none _ _ _))
-
-pub overflow_add-indices : goal.overflow_add-indices
-overflow_add-indices c = omega arith
-
-pub bounds-indices-start : goal.bounds-indices-start
-bounds-indices-start c = omega arith
-
-pub overflow_add-j : goal.overflow_add-j
-overflow_add-j c = omega arith
-
-pub loop-j-smaller : goal.loop-j-smaller
-loop-j-smaller c = omega arith
-
-pub loop-j-preserved : goal.loop-j-preserved
-loop-j-preserved c = let s = c.args in (omega arith, laid-step (λ (i : ℕ). s.v) s.indices.now c.loop-j.indices s.start c.loop-j.j s.v c.loop-j.invariant.1 refl)
-
 pub returns : goal.returns
-returns c = laid_done _ _ _ _ _ _ c.loop-j.invariant.1 (omega arith)
+returns c =
+    let s = c.args in
+    row_laid (λ (i : ℕ). s.v) (λ (i : ℕ). s.v) s.indices.now c.fill.new.self s.start s.len (omega arith) (λ j. refl)
+    (c.fill.ensures.after (λ y e. e) ∙ filled s.v (take (s.start + s.len - s.start) (drop s.start s.indices.now)))

@@ -1,11 +1,7 @@
 -- `source::all_fit`: where the colours fit joined each does; else one by one.
-use mathlib.Core.Path.{sym, ◌∙◌}
+use Rattle.std.proofs.Common.{length, sym, ◌∙◌}
 use Rattle.source.specs.Joined.{above-fits}
-use borrow.Author.Rules.{rules}
 use Rattle.source.proofs.all_fit.Goals as goal
 
 pub returns-then-fit : goal.returns-then-fit
-returns-then-fit c = above-fits c.args.cells.now c.args.n c.joined.result c.args.ym c.args.cm c.joined.ensures (sym c.fit.ensures ∙ c.if-fit.true)
-
-pub returns : goal.returns
-returns c = c.each_fits.ensures
+returns-then-fit c = c.if-fit.true ∙ above-fits c.args.cells.now (length c.args.cells.now) c.joined.result c.args.ym c.args.cm c.joined.ensures (sym c.fit.ensures ∙ c.if-fit.true)

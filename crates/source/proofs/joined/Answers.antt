@@ -1,16 +1,13 @@
--- `source::joined`. The loop's invariant: no component passed is greater.
-use Prim.Native.Nat.{◌-◌, ◌≤◌}
-use mathlib.Core.Path.{◌≡◌}
-use native.Mathlib.Omega.{arith}
-use Rattle.source.specs.Joined.{Above, above-none, above-next}
-use borrow.Author.Rules.{rules}
+-- `source::joined`: one colour more, and all of them.
+use Rattle.std.proofs.Common.{◌≡◌, length, arith}
+use Rattle.source.specs.Joined.{above-none, above-next}
 use Rattle.source.proofs.joined.Goals as goal
 
-pub loop-i-init : goal.loop-i-init
-loop-i-init c = (omega arith, above-none _)
+pub loop-c-init : goal.loop-c-init
+loop-c-init c = above-none _
 
-pub loop-i-preserved : goal.loop-i-preserved
-loop-i-preserved c = (omega arith, above-next c.args.cells.now c.loop-i.i c.loop-i.all c.loop-i.invariant.1)
+pub loop-c-preserved : goal.loop-c-preserved
+loop-c-preserved c = above-next c.args.cells.now c.loop-c.c-index c.loop-c.all c.loop-c.invariant
 
 pub returns : goal.returns
-returns c = let e : c.loop-i.i ≡ c.args.n = omega arith in rw e at c.loop-i.invariant.1
+returns c = let e : c.loop-c.c-index ≡ length c.args.cells.now = omega arith in rw e at c.loop-c.invariant

@@ -1,13 +1,6 @@
--- `source::joined`. The loop's invariant: no component passed is greater.
-use Prim.Native.Nat.{◌-◌, ◌≤◌}
-use mathlib.Core.Path.{◌≡◌}
-use native.Mathlib.Omega.{arith}
-use Rattle.source.specs.Joined.{Above, above-none, above-next}
-use borrow.Author.Rules.{rules}
+-- `source::joined`: no component passed is greater.
+use Rattle.source.specs.Joined.{Above}
 use Rattle.source.proofs.joined.Given as goal
 
-abbrev pub invariant-loop-i : goal.invariant-loop-i
-invariant-loop-i l = (l.i ≤ l.n) × Above l.cells l.i l.all
-
-abbrev pub decreases-loop-i : goal.decreases-loop-i
-decreases-loop-i l = l.n - l.i
+abbrev pub invariant-loop-c : goal.invariant-loop-c
+invariant-loop-c l = Above l.cells l.c-index l.all

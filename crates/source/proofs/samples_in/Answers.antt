@@ -1,20 +1,19 @@
 -- `source::samples_in`: greatest samples of 12 bits at most.
-use mathlib.Core.Path.{◌≡◌, ◌∙◌}
-use Prim.Native.Nat.{◌*◌, ◌≤◌, min}
-use native.Mathlib.Nat.{mul-le-mul}
-use native.Mathlib.Omega.{arith}
+use Rattle.std.proofs.Common.{◌≡◌, ◌*◌, ◌≤◌, ◌∙◌, min, length, take, arith}
+use Rattle.std.proofs.Math.Nat.{mul-le-mul}
 use Rattle.model.specs.Domain.{most}
 use Rattle.model.specs.ConfigLaws.{depth-most}
-use borrow.Author.Rules.{rules}
+use Rattle.domain.specs.Taken.{all_taken}
+use Rattle.source.specs.Source.{fits, all_fit}
 use Rattle.source.proofs.samples_in.Goals as goal
 
-pub overflow_mul-size : goal.overflow_mul-size
-overflow_mul-size c = let q : c.args.size * c.args.size ≤ 32 * 32 = mul-le-mul c.requires.0 c.requires.0 in omega arith
-
-pub all_fit-requires : goal.all_fit-requires
-all_fit-requires c = let q : c.args.size * c.args.size ≤ 32 * 32 = mul-le-mul c.requires.0 c.requires.0 in omega arith
-
 pub returns : goal.returns
-returns c = let y : min 65535 (most c.args.luma) ≡ most c.args.luma = omega (arith, depth-most c.args.luma c.requires.1) in
-    let u : min 65535 (most c.args.chroma) ≡ most c.args.chroma = omega (arith, depth-most c.args.chroma c.requires.2) in
-    c.all_fit.ensures ∙ rw (c.most_in-ym.ensures, c.most_in-cm.ensures, y, u)
+unfolding all_fit
+returns c = let s = c.args in
+    let n = s.size * s.size in
+    let q : n ≤ 32 * 32 = mul-le-mul c.requires.0 c.requires.0 in
+    let y : min 65535 (most s.luma) ≡ most s.luma = omega (arith, depth-most s.luma c.requires.1) in
+    let u : min 65535 (most s.chroma) ≡ most s.chroma = omega (arith, depth-most s.chroma c.requires.2) in
+    let h : n ≤ length s.cells.now = omega arith in
+    let e = all_taken (fits (most s.luma) (most s.chroma)) 0 s.cells.now n (length (take n s.cells.now)) h (omega arith) (omega arith) in
+    c.all_fit.ensures ∙ rw (c.from-ym.ensures, c.from-cm.ensures, c.most_in.ensures, c.most_in-2.ensures, y, u) e

@@ -1,11 +1,4 @@
-use mathlib.Core.Path.{◌≡◌, refl, sym, ap, ◌∙◌}
-use mathlib.Core.Bool.{Bool, true, false}
-use Prim.Native.Nat.{ℕ, suc, ◌+◌, ◌-◌, ◌*◌, ◌/◌, ◌%◌, ◌≤◌, ◌<◌}
-use native.Mathlib.Omega.{arith}
-use lib.ListN.{get_or}
-use borrow.Author.Tests.{lt-ltb, le-ltb, eq-eqb, ne_eqb, le-leb, lt-leb}
 use Rattle.starts.specs.Starts.{head_from, alphabet_in}
-use borrow.Author.Rules.{rules}
 use Rattle.starts.proofs.head_bits.Goals as goal
 
 pub index_bits-requires : goal.index_bits-requires

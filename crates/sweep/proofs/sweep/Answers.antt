@@ -1,14 +1,13 @@
-use mathlib.Core.Path.{◌≡◌, refl, sym, ap, ◌∙◌}
-use mathlib.Core.Bool.{Bool, true, false}
-use Prim.Native.Nat.{ℕ, suc, ◌+◌, ◌-◌, ◌*◌, ◌/◌, ◌%◌, ◌≤◌, ◌<◌}
-use native.Mathlib.Omega.{arith}
-use lib.ListN.{get_or}
-use borrow.Author.Tests.{lt-ltb, le-ltb, eq-eqb, ne_eqb, le-leb, lt-leb}
-use borrow.Author.Rules.{rules}
+-- `sweep::sweep`. The loop's invariant: the slots below s are swept.
+use Rattle.std.proofs.Common.{◌≡◌, ◌∙◌, ◌*◌, arith}
+use Rattle.sweep.specs.Prices.{swept_none, swept-more}
 use Rattle.sweep.proofs.sweep.Goals as goal
 
-pub slots-requires : goal.slots-requires
-slots-requires c = rw c.terms_of-t.ensures (omega arith, c.requires.0, c.requires.1, c.requires.2, c.requires.3)
+pub loop-s-init : goal.loop-s-init
+loop-s-init c = swept_none _ _ _ _ _ 0 _
+
+pub loop-s-preserved : goal.loop-s-preserved
+loop-s-preserved c = c.step.ensures ∙ swept-more _ _ _ _ _ _ _ _ c.loop-s.invariant
 
 pub returns : goal.returns
-returns c = c.slots.ensures ∙ rw c.terms_of-t.ensures
+returns c = let e : c.loop-s.s ≡ c.args.task.now.terms.n * 2 = omega arith in rw e at c.loop-s.invariant

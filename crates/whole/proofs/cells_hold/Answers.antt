@@ -1,27 +1,19 @@
-use Prim.Native.Nat.{◌*◌, ◌≤◌}
-use native.Mathlib.Nat.{mul-le-mul}
-use native.Mathlib.Omega.{arith}
+-- `whole::cells_hold`: the indices, then the escapes where an index can mark one.
+use Rattle.std.proofs.Common.{leb, length, take, ◌∙◌, arith}
+use Rattle.domain.specs.Taken.{all_taken}
 use Rattle.whole.specs.Parts.{cells-two, cells-one}
-use borrow.Author.Rules.{rules}
 use Rattle.whole.proofs.cells_hold.Goals as goal
 
-pub overflow_mul-n : goal.overflow_mul-n
-overflow_mul-n c = let s = c.args.cu.size in
-    let q : s * s ≤ 32 * 32 = mul-le-mul c.requires.0 c.requires.0 in
-    omega arith
-
-pub indices_hold-ok-requires : goal.indices_hold-ok-requires
-indices_hold-ok-requires c = let s = c.args.cu.size in
-    let q : s * s ≤ 32 * 32 = mul-le-mul c.requires.0 c.requires.0 in
-    omega arith
-
-pub escapes_hold-requires : goal.escapes_hold-requires
-escapes_hold-requires c = let s = c.args.cu.size in
-    let q : s * s ≤ 32 * 32 = mul-le-mul c.requires.0 c.requires.0 in
-    (omega arith, c.level_cap-ym.ensures, c.chroma_cap-cm.ensures, c.requires.1)
-
-pub returns-then-cu-m : goal.returns-then-cu-m
-returns-then-cu-m c = cells-two c.args.cu _ _ c.greatest-m.ensures _ _ c.indices_hold-ok.ensures c.escapes_hold.ensures
+pub returns-then-cu-from : goal.returns-then-cu-from
+returns-then-cu-from c = let cu = c.args.cu.now in
+    let n = c.area-n.result in
+    let m = c.greatest_index-m.result in
+    let a = c.indices_hold-ok.ensures ∙ all_taken (λ x. leb x m) 0 cu.indices n (length (take n cu.indices)) (omega arith) (omega arith) (omega arith) in
+    rw (← c.area-n.ensures.0) (cells-two cu n m c.greatest_index-m.ensures.0 _ _ a c.escapes_hold.ensures)
 
 pub returns : goal.returns
-returns c = cells-one c.args.cu _ _ c.greatest-m.ensures _ c.indices_hold-ok.ensures c.if-cu-m.false
+returns c = let cu = c.args.cu.now in
+    let n = c.area-n.result in
+    let m = c.greatest_index-m.result in
+    let a = c.indices_hold-ok.ensures ∙ all_taken (λ x. leb x m) 0 cu.indices n (length (take n cu.indices)) (omega arith) (omega arith) (omega arith) in
+    rw (← c.area-n.ensures.0) (cells-one cu n m c.greatest_index-m.ensures.0 _ a (omega arith))

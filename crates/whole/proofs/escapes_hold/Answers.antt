@@ -1,11 +1,12 @@
 use mathlib.Core.Bool.{true}
 use mathlib.Core.Path.{◌≡◌, refl, ◌∙◌, sym}
-use Prim.Native.Nat.{◌+◌, ◌≤◌, ◌-◌}
 use native.Mathlib.Omega.{arith}
-use Rattle.base.specs.Tests.{up_to, up_to-none, up_to-next, up_to_fails}
+use Rattle.base.specs.Tests.{up_to-none, up_to-next, up_to_fails}
 use Rattle.whole.specs.Parts.{escape_holds, escape_levels, escape_none, quiet_ends, quiet_on}
-use borrow.Author.Rules.{rules}
+use Rattle.std.proofs.Common.{ne_eqb}
+use Rattle.base.specs.Pick.{true_false}
 use Rattle.whole.proofs.escapes_hold.Goals as goal
+use Rattle.whole.proofs.escapes_hold.Goals.{then-from-cu, else-from-cu}
 
 pub overflow_cast-p : goal.overflow_cast-p
 overflow_cast-p c = omega (arith, c.requires.3)
@@ -24,39 +25,23 @@ loop-i-smaller-then-quiet c = omega (arith, quiet_ends _ _ _ _ (sym c.quiet.ensu
 
 pub loop-i-preserved-then-quiet : goal.loop-i-preserved-then-quiet
 loop-i-preserved-then-quiet c = let l = c.loop-i in
-    let cu = c.args.cu in
+    let cu = c.args.cu.now in
     let e = sym c.quiet.ensures ∙ c.if-quiet.true in
     (quiet_ends _ _ _ _ e, quiet_on cu l.i c.args.n _ refl e l.invariant.1)
-
-pub overflow_add-i-then-within : goal.overflow_add-i-then-within
-overflow_add-i-then-within c = omega arith
-
-pub loop-i-smaller-then-within : goal.loop-i-smaller-then-within
-loop-i-smaller-then-within c = omega arith
-
-pub loop-i-preserved-then-within : goal.loop-i-preserved-then-within
-loop-i-preserved-then-within c = let l = c.loop-i in
-    let cu = c.args.cu in (
-      omega arith,
-      up_to-next (escape_holds cu) l.i ∙ rw l.invariant.1 (escape_levels cu l.i c.if-cu-i.true ∙ sym (c.within.ensures cu c.requires.1 c.requires.2) ∙ c.if-within.true),
-    )
-
-pub returns-else-within : goal.returns-else-within
-returns-else-within c = let l = c.loop-i in
-    let cu = c.args.cu in
-    sym (up_to_fails (escape_holds cu) c.args.n l.i (omega arith) (escape_levels cu l.i c.if-cu-i.true ∙ sym (c.within.ensures cu c.requires.1 c.requires.2) ∙ c.if-within.false))
-
-pub overflow_add-i-else-cu-i : goal.overflow_add-i-else-cu-i
-overflow_add-i-else-cu-i c = omega arith
-
-pub loop-i-smaller : goal.loop-i-smaller
-loop-i-smaller c = omega arith
-
-pub loop-i-preserved : goal.loop-i-preserved
-loop-i-preserved c = let l = c.loop-i in
-    let cu = c.args.cu in
-    (omega arith, up_to-next (escape_holds cu) l.i ∙ rw l.invariant.1 (escape_none cu l.i c.if-cu-i.false))
 
 pub returns : goal.returns
 returns c = let e : c.loop-i.i ≡ c.args.n = omega arith in
     sym (rw e at c.loop-i.invariant.1)
+
+pub loop-i-preserved : goal.loop-i-preserved
+loop-i-preserved c = let l = c.loop-i in
+    let cu = c.args.cu.now in
+    let e : escape_holds cu l.i ≡ true =
+    elim c.if-from-cu.branch [ then-from-cu w ↦ escape_none cu l.i (λ z. w.if-from-cu.true (c.from.ensures ∙ z)) | else-from-cu w ↦ escape_levels cu l.i (sym c.from.ensures ∙ w.if-from-cu.false) ∙ sym (w.within.ensures cu c.requires.1 c.requires.2) ∙ sym w.value-is ∙ c.if-within.true ]
+    in
+    (omega arith, up_to-next (escape_holds cu) l.i ∙ rw l.invariant.1 e)
+
+pub returns-else-within : goal.returns-else-within
+returns-else-within c = let l = c.loop-i in
+    let cu = c.args.cu.now in
+    elim c.if-from-cu.branch [ then-from-cu w ↦ absurd (true_false (rw (ne_eqb _ _ w.if-from-cu.true) at (sym w.value-is ∙ c.if-within.false))) | else-from-cu w ↦ sym (up_to_fails (escape_holds cu) c.args.n l.i (omega arith) (escape_levels cu l.i (sym c.from.ensures ∙ w.if-from-cu.false) ∙ sym (w.within.ensures cu c.requires.1 c.requires.2) ∙ sym w.value-is ∙ c.if-within.false)) ]

@@ -1,20 +1,20 @@
-use native.Mathlib.Omega.{arith}
+-- `whole::holds_together`: the clauses on numbers, then those on lists.
+use Rattle.std.proofs.Common.{arith}
 use Rattle.whole.specs.Parts.{holds_not, holds-rest, holds-bounds}
-use borrow.Author.Rules.{rules}
 use Rattle.whole.proofs.holds_together.Goals as goal
 
-pub counts_hold-requires : goal.counts_hold-requires
-counts_hold-requires c = omega (arith, holds-bounds c.args.limit c.args.cu c.frame_holds-frame.result c.frame_holds-frame.ensures c.if-frame-cu.true)
+pub shared_ref_as_front-flags : goal.shared_ref_as_front-flags
+shared_ref_as_front-flags c = omega (arith, holds-bounds c.args.limit c.args.cu c.frame_holds.result c.frame_holds.ensures c.if-frame_holds-cu.true)
 
-pub entries_hold-requires : goal.entries_hold-requires
-entries_hold-requires c = omega (arith, holds-bounds c.args.limit c.args.cu c.frame_holds-frame.result c.frame_holds-frame.ensures c.if-frame-cu.true)
+pub palette_holds-requires : goal.palette_holds-requires
+palette_holds-requires c = omega (arith, holds-bounds c.args.limit c.args.cu c.frame_holds.result c.frame_holds.ensures c.if-frame_holds-cu.true)
 
 pub cells_hold-requires : goal.cells_hold-requires
-cells_hold-requires c = omega (arith, holds-bounds c.args.limit c.args.cu c.frame_holds-frame.result c.frame_holds-frame.ensures c.if-frame-cu.true)
+cells_hold-requires c = omega (arith, holds-bounds c.args.limit c.args.cu c.frame_holds.result c.frame_holds.ensures c.if-frame_holds-cu.true)
 
-pub returns-then-frame-cu : goal.returns-then-frame-cu
-returns-then-frame-cu c = holds-rest c.args.limit c.args.cu c.frame_holds-frame.result c.frame_holds-frame.ensures _ _ _ _ c.if-frame-cu.true
-    c.counts_hold.ensures c.entries_hold.ensures c.cells_hold.ensures c.empty_holds.ensures
+pub returns-then-frame_holds-cu : goal.returns-then-frame_holds-cu
+returns-then-frame_holds-cu c = holds-rest c.args.limit c.args.cu c.frame_holds.result c.frame_holds.ensures _ _ _ _ c.if-frame_holds-cu.true
+    c.counts_hold.ensures c.palette_holds.ensures c.cells_hold.ensures c.empty_holds.ensures
 
-pub returns : goal.returns
-returns c = holds_not c.args.limit c.args.cu c.frame_holds-frame.result c.frame_holds-frame.ensures c.if-frame-cu.false
+pub returns-else-frame_holds-cu : goal.returns-else-frame_holds-cu
+returns-else-frame_holds-cu c = holds_not c.args.limit c.args.cu c.frame_holds.result c.frame_holds.ensures c.if-frame_holds-cu.false

@@ -1,14 +1,7 @@
-use mathlib.Core.Path.{◌≡◌, ◌∙◌, sym}
-use Prim.Native.Nat.{◌≤◌, ◌-◌}
-use native.Mathlib.Omega.{arith}
-use lib.Dec.{leb}
-use lib.ListN.{get_or}
-use Rattle.base.specs.Tests.{up_to, up_to-none, up_to-next, and_pick}
-use borrow.Author.Rules.{rules}
+-- `whole::indices_hold`: whether the indices passed are at most m.
+use Rattle.std.proofs.Common.{◌≡◌, leb, get_or}
+use Rattle.base.specs.Tests.{up_to}
 use Rattle.whole.proofs.indices_hold.Given as goal
 
-abbrev pub invariant-loop-i : goal.invariant-loop-i
-invariant-loop-i l = (l.i ≤ l.n) × (l.ok ≡ up_to l.i (λ j. leb (get_or l.indices j 0) l.m))
-
-abbrev pub decreases-loop-i : goal.decreases-loop-i
-decreases-loop-i l = l.n - l.i
+abbrev pub invariant-loop-x : goal.invariant-loop-x
+invariant-loop-x l = l.ok ≡ up_to l.x-index (λ j. leb (get_or l.indices j 0) l.m)

@@ -5,7 +5,6 @@ use lib.Dec.{eqb}
 use Rattle.base.specs.Tests.{ands-every}
 use Rattle.model.specs.Whole.{matches}
 use Rattle.whole.specs.Parts.{beq_same}
-use borrow.Author.Rules.{rules}
 use Rattle.whole.proofs.matches.Goals as goal
 
 pub returns : goal.returns

@@ -1,6 +1,5 @@
 use native.Mathlib.Omega.{arith}
 use Rattle.whole.specs.Parts.{levels_capped}
-use borrow.Author.Rules.{rules}
 use Rattle.whole.proofs.within.Goals as goal
 
 pub returns : goal.returns

@@ -1,13 +1,12 @@
 -- `write::flat_block`: each number has a place in the list, by its type or since the block holds together.
-use mathlib.Core.Path.{sym, ap, ◌∙◌}
+use mathlib.Core.Path.{ap, ◌∙◌}
 use Prim.Native.Nat.{ℕ}
 use native.Mathlib.Omega.{arith}
 use borrow.Author.Rules.{elem_Fits}
-use lib.ListN.{replicate, length-replicate, length-map}
+use lib.ListN.{replicate, length-replicate}
 use mir.Syntax.{w8}
 use Rattle.flat.specs.Flat.{block_of}
 use Rattle.write.specs.Lists.{fits, block_back}
-use borrow.Author.Rules.{rules}
 use Rattle.write.proofs.flat_block.Goals as goal
 
 pub returns : goal.returns

@@ -10,7 +10,7 @@ pub returns : goal.returns
 returns c =
     let ys = c.args.runs.now in
     let bs = c.args.list.now in
-    let e : c.take_runs-a.result ≡ taken ys = c.take_runs-a.ensures ∙ (λ i. laid_on (c.no_runs-none.ensures i) ys (c.capped-n.ensures.0 i)) in (
+    let e : c.take_runs-taken.result ≡ taken ys = c.take_runs-taken.ensures ∙ (λ i. laid_on (c.no_runs.ensures i) ys (c.capped.ensures.0 i)) in (
       c.write_palette_cu.ensures.0 ∙ (ap (λ (r : List PaletteRun). write_of c.args.cu r (length ys) (length bs)) e ∙ write_taken c.args.cu ys (length bs)),
       c.write_palette_cu.ensures.1 ∙ (ap (λ (r : List PaletteRun). list_after c.args.cu r (length ys) bs) e ∙ list_taken c.args.cu ys bs),
     )

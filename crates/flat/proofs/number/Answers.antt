@@ -1,8 +1,0 @@
--- `flat::number`: 0 past the end.
-use mathlib.Core.Path.{sym}
-use lib.ListN.{get_or-eq_default}
-use borrow.Author.Rules.{rules}
-use Rattle.flat.proofs.number.Goals as goal
-
-pub returns : goal.returns
-returns c = sym (get_or-eq_default c.args.list.now 0 c.if-i-list.false)

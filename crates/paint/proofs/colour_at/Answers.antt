@@ -1,9 +1,0 @@
--- `paint::colour_at`: past the end a colour is 0. Assumes nothing.
-use mathlib.Core.Path.{sym}
-use native.Mathlib.Omega.{arith}
-use lib.ListN.{get_or-eq_default}
-use borrow.Author.Rules.{rules}
-use Rattle.paint.proofs.colour_at.Goals as goal
-
-pub returns : goal.returns
-returns c = sym (get_or-eq_default c.args.met.now 0 {n = c.args.k} (omega (arith, c.requires, c.if-i-lt128.false)))

@@ -1,9 +1,0 @@
--- `smooth::colour`: past the palette there is none.
-use mathlib.Core.Path.{sym}
-use native.Mathlib.Omega.{arith}
-use lib.ListN.{get_or-eq_default}
-use borrow.Author.Rules.{rules}
-use Rattle.smooth.proofs.colour.Goals as goal
-
-pub returns : goal.returns
-returns c = sym (get_or-eq_default c.args.palette.now 0 (omega (arith, c.requires)))
