@@ -19,6 +19,9 @@ room_div stride height n h =
     (λ u. absurd (true_false (sym (le-leb (stride * height) n ((le-div_iff_mul-le h).0 (leb-true stride (n / height) u))) ∙ t)))
     (λ u. u ∙ sym t))
 
+pub room-none : (stride n : ℕ) → leb (stride * 0) n ≡ true
+room-none stride n = le-leb (stride * 0) n (omega arith)
+
 pub target_numbers : (c : PaletteConfig) (g : SourceBlock) (ys cs y b r : ℕ) → Numbered (target_tests c g ys cs y b r)
 target_numbers c g ys cs y b r = (omega arith, (omega arith, (omega arith, tt)))
 
