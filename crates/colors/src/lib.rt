@@ -92,5 +92,5 @@ impl ColorIndex {
 fn hash(key: u64) -> usize
     ensures { (result ≡ hash_of key) × (result < 256) }
 {
-    (key.wrapping_mul(11400714819323198485) >> 56) as usize
+    (wrap::wrapping_mul(key, 11400714819323198485) >> 56) as usize
 }

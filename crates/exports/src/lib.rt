@@ -7,6 +7,7 @@ ghost use Rattle.exports.specs.Numbers.{scan_pos, scan_pos_inv, place_above, ste
 
 use quant::{dequant_escape, distance, quantize_escape, step, tolerance};
 use scan::{place_above, scan_pos, scan_pos_inv};
+use wrap::wrapping_mul;
 
 const NONE: u64 = u64::MAX;
 
@@ -104,5 +105,5 @@ pub extern "C" fn velomitra_quantize_escape(lossless: bool, step: u64, most: u64
 pub extern "C" fn velomitra_wrapping_mul(a: u64, b: u64) -> u64
     ensures { result ≡ (a * b) % 2 ^ 64 }
 {
-    a.wrapping_mul(b)
+    wrapping_mul(a, b)
 }
