@@ -1,5 +1,5 @@
 -- Distance and number of an entry in one number, whose least is that of the nearest entry, the lowest on ties.
-use Rattle.std.specs.Prelude.{List, ◌≡◌, ℕ, zero, suc, ◌+◌, ◌*◌, ◌/◌, ◌%◌, ◌≤◌, ◌<◌, min, max, ltb, get_or, replicate}
+use Rattle.std.specs.Prelude.{List, ◌≡◌, ℕ, zero, suc, ◌+◌, ◌-◌, ◌*◌, ◌/◌, ◌%◌, ◌≤◌, ◌<◌, min, max, ltb, get_or, replicate}
 use Rattle.std.proofs.Common.{⊎_elim, ap, sym, ◌∙◌, arith, lt-ltb, le-ltb}
 use Rattle.std.proofs.lemmas.List.{length-replicate}
 use Rattle.base.specs.Pick.{pick, lt_or_le}
@@ -17,6 +17,9 @@ held_in ps n k h = rw (lt-ltb k n h)
 
 pub held-past : (ps : List ℕ) (n k : ℕ) → n ≤ k → get_or ps 0 0 ≡ held_of ps n k
 held-past ps n k h = rw (le-ltb k n h)
+
+pub one_less : (k : ℕ) → k < 64 → 64 - (k + 1) < 64 - k
+one_less k h = omega arith
 
 -- ---- components
 
