@@ -184,9 +184,9 @@ impl Map {
     // A block to bins and back: what it took, and what differs. The bins that follow it are of no class, so that a reader who looked at one would refuse.
     fn carry(&self, block: Block, known: &mut Predictors) -> Result<Carried, Refused> {
         let mut cu = [0; 4432];
+        self.make(block, &known.enc, &mut cu)?;
         let mut back = [0; 4432];
         let mut bins = [255; 32768];
-        self.make(block, &known.enc, &mut cu)?;
         let size = size_of(block.at);
         let sent = send(&cu, &mut bins);
         let got = receive(&bins, size, block.series, &known.dec, &mut back);
