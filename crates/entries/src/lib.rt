@@ -15,9 +15,13 @@ pub fn pack(y: u16, u: u16, v: u16) -> u64
 }
 
 // The entries of a palette as numbers.
-#[tactic(auto, unfolding(crate::specs::Entries::packed_of))]
 pub fn pack_palette(palette: [Color; 64]) -> [u64; 64]
     ensures { (result ≡ map packed_of palette) × (length result ≡ 64) }
 {
-    palette.map(|c| pack(c.y, c.cb, c.cr))
+    let mut out = [0; 64];
+    for i in 0..64 {
+        let c = palette[i];
+        out[i] = pack(c.y, c.cb, c.cr);
+    }
+    out
 }

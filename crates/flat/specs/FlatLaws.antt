@@ -1,5 +1,5 @@
 -- What the readers of numbers meet, and that a flat form is read back.
-use Rattle.std.specs.Prelude.{◌≡◌, Bool, true, ℕ, zero, suc, ◌+◌, ◌-◌, ◌*◌, ◌/◌, ◌%◌, ◌≤◌, ◌<◌, min, length, get_or, take, drop, replicate}
+use Rattle.std.specs.Prelude.{◌≡◌, Bool, true, ℕ, zero, suc, ◌+◌, ◌-◌, ◌*◌, ◌/◌, ◌%◌, ◌≤◌, ◌<◌, min, length, get_or, set, take, drop, replicate}
 use Rattle.std.proofs.Math.Path.{refl, ap}
 use Rattle.std.proofs.Common.{sym, ◌∙◌, add_assoc, mod-eq_of_lt, length-append, get_or-append-add, ext_get_or}
 use Rattle.std.proofs.Math.Bool.{false}
@@ -10,7 +10,7 @@ use Rattle.std.proofs.Math.Dec.{eqb}
 use Rattle.std.proofs.lemmas.List.{length-replicate, length-map, length-take, length-drop, get_or-take, get_or-drop, get_or-append_right, get_or-replicate, get_or_past}
 use Rattle.std.proofs.Math.Logic.{⊎_elim}
 use Rattle.std.proofs.Math.ListN.{get_or-append, get_or-map}
-use Rattle.base.specs.Cells.{laid_in, laid-length, laid_same}
+use Rattle.base.specs.Cells.{laid, laid_in, laid-length, laid_on_lem, laid_same}
 use Rattle.base.specs.Pick.{lt_or_le}
 use Rattle.h265.specs.Strings.{bit}
 use Rattle.model.specs.declared.Color.{Color}
@@ -30,6 +30,22 @@ pub each_by : {A : Type 0} (a : A) (n : ℕ) (f : ℕ → A) (xs : List A) → l
 each_by a n f xs e h =
     let k : length (each a n f) ≡ n = laid-length f (replicate n a) 0 n ∙ length-replicate n a in
     ext_get_or a (each a n f) xs (k ∙ sym e) (λ i m. let l : i < n = omega arith in each_at_lem a a n f i l ∙ h i l)
+
+-- one turn of a loop that lays four places
+pub laid-four : {A : Type 0} (f : ℕ → A) (l out : List A) (k : ℕ) (a b c d : A) → out ≡ laid f l 0 (4 * k) → a ≡ f (4 * k) → b ≡ f (4 * k + 1) → c ≡ f (4 * k + 2) → d ≡ f (4 * k + 3)
+    → set (set (set (set out (4 * k) a) (4 * k + 1) b) (4 * k + 2) c) (4 * k + 3) d ≡ laid f l 0 (4 * (k + 1))
+laid-four f l out k a b c d e ea eb ec ed =
+    let i = 4 * k in
+    let z₂ : i + 1 + 1 ≡ i + 2 = omega arith in
+    let z₃ : i + 2 + 1 ≡ i + 3 = omega arith in
+    let z₄ : i + 3 + 1 ≡ 4 * (k + 1) = omega arith in
+    let o₁ = set out i a in
+    let o₂ = set o₁ (i + 1) b in
+    let o₃ = set o₂ (i + 2) c in
+    let e₁ : o₁ ≡ laid f l 0 (i + 1) = laid_on_lem f l out i a e ea in
+    let e₂ : o₂ ≡ laid f l 0 (i + 2) = laid_on_lem f l o₁ (i + 1) b e₁ eb ∙ ap (laid f l 0) z₂ in
+    let e₃ : o₃ ≡ laid f l 0 (i + 3) = laid_on_lem f l o₂ (i + 2) c e₂ ec ∙ ap (laid f l 0) z₃ in
+    laid_on_lem f l o₃ (i + 3) d e₃ ed ∙ ap (laid f l 0) z₄
 
 padded_at : (l zs : List ℕ) (n m i : ℕ) → n ≡ min (length l) m → length (take n l) ≡ n → zs ≡ drop n (replicate {A = ℕ} m 0) → i < m → number l i ≡ get_or (take n l ++ zs) i 0
 padded_at l zs n m i e f d h =

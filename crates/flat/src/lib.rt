@@ -105,14 +105,22 @@ pub fn indices_of(list: &[u16]) -> [u8; 1024]
     out
 }
 
-// A block's levels.
+// A block's levels, four cells at a turn.
 pub fn escapes_of(list: &[u16]) -> [Levels; 1024]
     requires { 4432 ≤ length list.now }
     ensures { result ≡ each no_levels 1024 (λ i. levels_at list.now (1360 + 3 * i)) }
 {
     let mut out = [Levels { y: 0, cb: 0, cr: 0 }; 1024];
-    for (i, levels) in out.iter_mut().enumerate() {
-        *levels = levels_in(list, 1360 + 3 * i);
+    for k in 0..256 {
+        let i = 4 * k;
+        let a = levels_in(list, 1360 + 3 * i);
+        let b = levels_in(list, 1360 + 3 * (i + 1));
+        let c = levels_in(list, 1360 + 3 * (i + 2));
+        let d = levels_in(list, 1360 + 3 * (i + 3));
+        out[i] = a;
+        out[i + 1] = b;
+        out[i + 2] = c;
+        out[i + 3] = d;
     }
     out
 }

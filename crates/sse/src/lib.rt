@@ -19,14 +19,16 @@ pub fn block_figure(c: PaletteConfig, cu: PaletteCu, cells: &[u64; 1024]) -> u64
 {
     let s = levels::scale_of(c);
     let palette = entries::pack_palette(cu.palette);
+    let indices = cu.indices;
+    let escapes = cu.escapes;
     let n = area(cu.size);
     let mut values = [0; 1024];
     levels::values(
         s,
         &palette,
         cu.palette_size,
-        &cu.indices,
-        cu.escapes,
+        &indices,
+        escapes,
         n,
         &mut values,
     );
