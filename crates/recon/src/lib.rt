@@ -105,21 +105,14 @@ fn cell_colors(c: PaletteConfig, cu: PaletteCu, m: usize, out: &mut [u64; 1024])
     ensures { out.new ≡ laid (cell_color c cu) out.old 0 m }
 {
     let palette = pack_palette(cu.palette);
-    let indices = &cu.indices[..m];
-    if none_escape(indices, cu.palette_size) {
-        paint(&palette, indices, out);
+    let indices = cu.indices;
+    if none_escape(&indices[..m], cu.palette_size) {
+        paint(&palette, &indices[..m], out);
         return;
     }
     let s = levels::scale_of(c);
-    levels::values(
-        s,
-        &palette,
-        cu.palette_size,
-        &cu.indices,
-        cu.escapes,
-        m,
-        out,
-    );
+    let escapes = cu.escapes;
+    levels::values(s, &palette, cu.palette_size, &indices, escapes, m, out);
 }
 
 // The block onto the chroma planes, where there are any.

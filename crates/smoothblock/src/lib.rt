@@ -32,13 +32,12 @@ fn with_map(
     requires { (config_in c ≡ true) × (cu.size ≤ 32) }
     ensures { result ≡ mapped c cu (in_rows cu.size cells.now) (D.map indices changed) }
 {
-    let out = PaletteCu { indices, ..cu };
+    let mut out = cu;
+    out.indices = indices;
     if changed {
-        let sse = block_figure(c, out, cells);
-        PaletteCu { sse, ..out }
-    } else {
-        out
+        out.sse = block_figure(c, out, cells);
     }
+    out
 }
 
 // A block smoothed, from samples row by row.
@@ -65,8 +64,6 @@ pub fn smooth_block(
     };
     let mut indices = cu.indices;
     let changed = smooth(&scene, &mut indices);
-    SmoothedBlock {
-        changed,
-        cu: with_map(c, cu, cells, indices, changed),
-    }
+    let out = with_map(c, cu, cells, indices, changed);
+    SmoothedBlock { changed, cu: out }
 }
