@@ -57,12 +57,13 @@ fn search(paths: &mut Paths, task: &Task) -> Ends
 pub fn chart(
     xs: &[u8; 1024],
     above: &mut [u8; 1024],
+    paths: &mut Paths,
     size: usize,
     most: u32,
     m: RateModel,
-) -> (Paths, Ends)
-    requires { (size ≤ 32) × (1 ≤ most) × (most ≤ 64) × (length above.old ≡ 1024) }
-    ensures { Charted (job size (size * size) most xs.now (price_of m most)) above.new result.0.pos result.0.st result.1.index result.1.above }
+) -> Ends
+    requires { (size ≤ 32) × (1 ≤ most) × (most ≤ 64) × (length above.old ≡ 1024) × (table_of paths.old ≡ fresh) }
+    ensures { Charted (job size (size * size) most xs.now (price_of m most)) above.new paths.new.pos paths.new.st result.index result.above }
 {
     let n = size * size;
     fill_above(xs, above, size);
@@ -79,9 +80,7 @@ pub fn chart(
         lengths: &lengths,
         sums: &run_sums(m),
     };
-    let mut paths = Paths::fresh();
-    let ends = search(&mut paths, &task);
-    (paths, ends)
+    search(paths, &task)
 }
 
 // The cheapest path of a block's cells.
@@ -90,7 +89,8 @@ pub fn plan_cells(xs: &[u8; 1024], size: usize, most: u32, m: RateModel) -> Foun
     ensures { result ≡ found_of (planned (job size (size * size) most xs.now (price_of m most))) }
 {
     let mut above = [0; 1024];
-    let (paths, ends) = chart(xs, &mut above, size, most, m);
+    let mut paths = Paths::fresh();
+    let ends = chart(xs, &mut above, &mut paths, size, most, m);
     finish(
         xs,
         &above,

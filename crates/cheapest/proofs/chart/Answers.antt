@@ -26,10 +26,10 @@ invariant_of-task c =
       measured = tables_of _ _ _ _ _ _ _ _ _ _ _ (omega arith) c.requires.3 (length-replicate {A = ℕ} 1026 0) (length-replicate {A = ℕ} 1026 0) (length-replicate {A = ℕ} 1026 0) c.fill_above.ensures f.0 f.1 f.2;
     }
 
-pub search-ends-requires : goal.search-ends-requires
-search-ends-requires c = c.fresh-paths.ensures
+pub search-requires : goal.search-requires
+search-requires c = c.requires.4
 
 pub returns : goal.returns
 returns c = let h : c.args.size * c.args.size ≤ 32 * 32 = mul-le-mul c.requires.0 c.requires.0 in
-    let e = rw c.terms_of.ensures at c.search-ends.ensures in
+    let e = rw c.terms_of.ensures at c.search.ensures in
     charted-same _ _ _ _ _ _ _ _ _ _ _ (planned-same _ _ _ _ _ _ (prices_same _ _ _ _ _ _ (omega arith) c.run_sums.ensures refl)) e

@@ -4,15 +4,15 @@ use lib.ListN.{length-replicate}
 use native.Mathlib.Nat.{mul-le-mul}
 use Rattle.planonto.proofs.plan_onto.Goals as goal
 
-pub chart-requires : goal.chart-requires
-chart-requires c = (c.requires.0, c.requires.1, c.requires.2, length-replicate {A = ℕ} 1024 0)
+pub chart-ends-requires : goal.chart-ends-requires
+chart-ends-requires c = (c.requires.0, c.requires.1, c.requires.2, length-replicate {A = ℕ} 1024 0, c.fresh-paths.ensures)
 
 pub overflow_mul-size : goal.overflow_mul-size
 overflow_mul-size c = let h : c.args.size * c.args.size ≤ 32 * 32 = mul-le-mul c.requires.0 c.requires.0 in omega arith
 
 pub finish_onto-requires : goal.finish_onto-requires
 finish_onto-requires c = let h : c.args.size * c.args.size ≤ 32 * 32 = mul-le-mul c.requires.0 c.requires.0 in
-    (omega arith, c.chart.ensures.falls)
+    (omega arith, c.chart-ends.ensures.falls)
 
 pub returns : goal.returns
-returns c = rw (← c.chart.ensures.path) c.finish_onto.ensures
+returns c = rw (← c.chart-ends.ensures.path) c.finish_onto.ensures
