@@ -25,13 +25,14 @@ impl Paths {
     pub fn fresh() -> Paths
         ensures { table_of result ≡ fresh }
     {
-        let mut cost = [f32::INFINITY; 2050];
-        cost[0] = 0.0;
-        Paths {
-            cost,
+        let mut paths = Paths {
+            cost: [0.0; 2050],
             pos: [0; 2050],
             st: [false; 2050],
-        }
+        };
+        paths.cost.fill(f32::INFINITY);
+        paths.cost[0] = 0.0;
+        paths
     }
 
     // A path of cost c whose last run started at p, after a run of kind k, ends at slot s: kept where it is cheaper.
