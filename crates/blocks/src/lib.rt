@@ -14,7 +14,12 @@ use model::{Color, Levels, PaletteConfig, PaletteCu};
 pub fn pack_predictor(colors: [Color; 128]) -> [u64; 128]
     ensures { result ≡ map packed_of colors }
 {
-    colors.map(|c| entries::pack(c.y, c.cb, c.cr))
+    let mut out: [u64; 128] = [0; 128];
+    for i in 0..128 {
+        let c = colors[i];
+        out[i] = entries::pack(c.y, c.cb, c.cr);
+    }
+    out
 }
 
 // A number as a colour.
@@ -33,7 +38,11 @@ fn unpack(x: u64) -> Color
 fn unpack_palette(palette: [u64; 64]) -> [Color; 64]
     ensures { result ≡ map color_of palette }
 {
-    palette.map(unpack)
+    let mut out = [Color { y: 0, cb: 0, cr: 0 }; 64];
+    for i in 0..64 {
+        out[i] = unpack(palette[i]);
+    }
+    out
 }
 
 // The blank block: all 0 or off.
