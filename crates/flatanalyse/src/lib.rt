@@ -10,9 +10,10 @@ ghost use Rattle.flat.specs.Flat.{predictor_of};
 ghost use Rattle.flatchoose.specs.Choose.{Lent};
 ghost use Rattle.flatanalyse.specs.Cells.{cells_out};
 
+use colors::ColorIndex;
 use flat::predictor_of;
 use flatchoose::choose_block;
-use flatcounter::{counter_of, lay_counter};
+use flatcounter::{lay_counter, read_counter};
 use model::PaletteConfig;
 use refusal::Refusal;
 
@@ -34,7 +35,8 @@ pub fn analyze_cells(
         (record { keys = keys.entry.now; entry = entry.old; stamp = stamp.old; block = block.old }) }
 {
     let p = predictor_of(predictor);
-    let mut counter = counter_of(keys, entry, stamp);
+    let mut counter = ColorIndex::new();
+    read_counter(keys, entry, stamp, &mut counter);
     analysis::check_lent(c, p, &counter, tol)?;
     let answer = choose_block(cells, c, size, p, tol, &mut counter, block);
     lay_counter(&counter, keys, entry, stamp);

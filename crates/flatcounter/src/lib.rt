@@ -1,22 +1,41 @@
 // The colour counter as lists of numbers, for callers that have no records: 256 keys; 256 entries; the generation, then 256 stamps. A list may have any length: a number that is missing reads as 0, and what would lie past the end is not laid.
 #![tactic(auto)]
 
-ghost use Rattle.std.specs.Prelude.{◌≡◌, ◌∷◌, ◌+◌, ◌≤◌, min, length};
+ghost use Rattle.std.specs.Prelude.{◌≡◌, ◌∷◌, ◌+◌, ◌≤◌, min, length, replicate};
 ghost use Rattle.std.proofs.lemmas.List.Edits.{sets};
+ghost use Rattle.colors.specs.Table.{unused};
 ghost use Rattle.flat.specs.Flat.{number, each};
 ghost use Rattle.flatcounter.specs.Counter.{counter_of, marks_of};
 
 use colors::ColorIndex;
+
+// Keys read over zeros.
+fn read_keys(list: &[u64], out: &mut [u64; 256])
+    requires { out.old ≡ replicate 256 0 }
+    ensures { out.new ≡ each 0 256 (number list.now) }
+{
+    for i in 0..list.len().min(256) {
+        out[i] = list[i];
+    }
+}
 
 // A counter's keys.
 pub fn keys_of(list: &[u64]) -> [u64; 256]
     ensures { result ≡ each 0 256 (number list.now) }
 {
     let mut out: [u64; 256] = [0; 256];
+    read_keys(list, &mut out);
+    out
+}
+
+// Entries read over zeros.
+fn read_entries(list: &[u16], out: &mut [u16; 256])
+    requires { out.old ≡ replicate 256 0 }
+    ensures { out.new ≡ each 0 256 (number list.now) }
+{
     for i in 0..list.len().min(256) {
         out[i] = list[i];
     }
-    out
 }
 
 // A counter's entries.
@@ -24,10 +43,18 @@ pub fn entries_of(list: &[u16]) -> [u16; 256]
     ensures { result ≡ each 0 256 (number list.now) }
 {
     let mut out: [u16; 256] = [0; 256];
-    for i in 0..list.len().min(256) {
-        out[i] = list[i];
-    }
+    read_entries(list, &mut out);
     out
+}
+
+// Stamps read over zeros.
+fn read_stamps(list: &[u32], out: &mut [u32; 256])
+    requires { out.old ≡ replicate 256 0 }
+    ensures { out.new ≡ each 0 256 (λ i. number list.now (1 + i)) }
+{
+    for i in 0..list.len().min(257).saturating_sub(1) {
+        out[i] = list[1 + i];
+    }
 }
 
 // A counter's stamps.
@@ -35,9 +62,7 @@ pub fn stamps_of(list: &[u32]) -> [u32; 256]
     ensures { result ≡ each 0 256 (λ i. number list.now (1 + i)) }
 {
     let mut out: [u32; 256] = [0; 256];
-    for i in 0..list.len().min(257).saturating_sub(1) {
-        out[i] = list[1 + i];
-    }
+    read_stamps(list, &mut out);
     out
 }
 
@@ -90,17 +115,25 @@ pub fn lay_marks(generation: u32, stamp: &[u32; 256], list: &mut [u32])
     lay_stamps(stamp, list);
 }
 
+// A counter's three lists read into one that has not been used.
+#[tactic(auto, unfolding(crate::specs::Counter::counter_of, colors::specs::Table::unused))]
+pub fn read_counter(keys: &[u64], entry: &[u16], stamp: &[u32], counter: &mut ColorIndex)
+    requires { counter.old ≡ unused }
+    ensures { counter.new ≡ counter_of keys.now entry.now stamp.now }
+{
+    read_keys(keys, &mut counter.keys);
+    read_entries(entry, &mut counter.entry);
+    read_stamps(stamp, &mut counter.stamp);
+    counter.generation = generation_of(stamp);
+}
+
 // A counter of its three lists.
-#[tactic(auto, unfolding(crate::specs::Counter::counter_of))]
 pub fn counter_of(keys: &[u64], entry: &[u16], stamp: &[u32]) -> ColorIndex
     ensures { result ≡ counter_of keys.now entry.now stamp.now }
 {
-    ColorIndex {
-        keys: keys_of(keys),
-        entry: entries_of(entry),
-        stamp: stamps_of(stamp),
-        generation: generation_of(stamp),
-    }
+    let mut counter = ColorIndex::new();
+    read_counter(keys, entry, stamp, &mut counter);
+    counter
 }
 
 // A counter in its three lists, as far as they reach.

@@ -14,17 +14,17 @@ returns-in_err-check_lent c = let s = c.args in
     let l : Lent = record { keys = s.keys.now; entry = s.entry.now; stamp = s.stamp.now; block = s.block.now } in
     let p = err_from_is_err_and c.from_residual.result c.from_residual.ensures.1 in
     rw (p.1, p.2)
-    (checked_out s.cells.now s.c s.size c.predictor_of-p.result s.tol l _ (rw c.counter_of-counter.ensures at c.in_err-check_lent.ensures) (number_some _)
+    (checked_out s.cells.now s.c s.size c.predictor_of-p.result s.tol l _ (rw c.read_counter.ensures at c.in_err-check_lent.ensures) (number_some _)
     ∙ ap (λ (z : PalettePredictor). cells_out s.cells.now s.c s.size z s.tol l) c.predictor_of-p.ensures)
 
 pub choose_block-answer-requires : goal.choose_block-answer-requires
 choose_block-answer-requires c = let s = c.args in
-    let b = lent_bounds s.c c.predictor_of-p.result c.counter_of-counter.result (lent_passed s.cells.now s.c s.size c.predictor_of-p.result c.counter_of-counter.result s.tol c.in_ok-check_lent.ensures).0 in
+    let b = lent_bounds s.c c.predictor_of-p.result c.read_counter.new.counter (lent_passed s.cells.now s.c s.size c.predictor_of-p.result c.read_counter.new.counter s.tol c.in_ok-check_lent.ensures).0 in
     (c.requires.0, c.requires.1, b.0, b.1)
 
 pub returns : goal.returns
 returns c = let s = c.args in
     let l : Lent = record { keys = s.keys.now; entry = s.entry.now; stamp = s.stamp.now; block = s.block.now } in
-    let w = lent_passed s.cells.now s.c s.size c.predictor_of-p.result (counter_lent l) s.tol (rw c.counter_of-counter.ensures at c.in_ok-check_lent.ensures) in
-    passed_out s.cells.now s.c s.size c.predictor_of-p.result s.tol l w.0 w.1 _ _ _ _ _ _ (rw c.counter_of-counter.ensures at c.choose_block-answer.ensures) c.lay_counter.ensures.0 c.lay_counter.ensures.1 c.lay_counter.ensures.2
+    let w = lent_passed s.cells.now s.c s.size c.predictor_of-p.result (counter_lent l) s.tol (rw c.read_counter.ensures at c.in_ok-check_lent.ensures) in
+    passed_out s.cells.now s.c s.size c.predictor_of-p.result s.tol l w.0 w.1 _ _ _ _ _ _ (rw c.read_counter.ensures at c.choose_block-answer.ensures) c.lay_counter.ensures.0 c.lay_counter.ensures.1 c.lay_counter.ensures.2
     ∙ ap (λ (z : PalettePredictor). cells_out s.cells.now s.c s.size z s.tol l) c.predictor_of-p.ensures
