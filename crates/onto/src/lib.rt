@@ -1,7 +1,7 @@
 // A block laid onto a lent plane.
 #![tactic(auto)]
 
-ghost use Rattle.std.specs.Prelude.{◌≡◌, Bool, true, false, ℕ, ◌+◌, ◌-◌, ◌*◌, ◌<◌, ◌≤◌, min, length};
+ghost use Rattle.std.specs.Prelude.{◌≡◌, Bool, true, false, ℕ, ◌+◌, ◌-◌, ◌*◌, ◌/◌, ◌%◌, ◌^◌, ◌<◌, ◌≤◌, min, length};
 ghost use Rattle.base.specs.Cells.{laid};
 ghost use Rattle.onto.specs.Onto.{part_of, cell_of, after};
 ghost use Rattle.onto.specs.Laws.{columns, rows, scan_rows, from_cells, Apt, row_start, row_value};
@@ -24,16 +24,23 @@ pub struct Onto {
     pub comp: u8,
 }
 
-// One component of a colour.
+// Where a component stands in a colour.
 #[tactic(auto, unfolding(crate::specs::Onto::part_of))]
+fn shift_of(comp: u8) -> u32
+    ensures { (result ≤ 32) × ((c : ℕ) → c / 2 ^ result % 65536 ≡ part_of comp c) }
+{
+    match comp {
+        0 => 0,
+        1 => 16,
+        _ => 32,
+    }
+}
+
+// One component of a colour.
 fn part(comp: u8, c: u64) -> u16
     ensures { result ≡ part_of comp c }
 {
-    match comp {
-        0 => (c % 65536) as u16,
-        1 => (c / 65536 % 65536) as u16,
-        _ => (c / 4294967296 % 65536) as u16,
-    }
+    ((c >> shift_of(comp)) % 65536) as u16
 }
 
 // The luma columns or rows of a count of them, of at most `most`.
