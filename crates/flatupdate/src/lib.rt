@@ -12,7 +12,9 @@ fn copy(list: &mut [u16], to: usize, source: &[u16], from: usize, n: usize)
     requires { (to + n ≤ length list.old) × (from + n ≤ length source.now) × (to ≤ 385) × (from ≤ 4432) × (n ≤ 384) }
     ensures { list.new ≡ sets list.old to (take n (drop from source.now)) }
 {
-    list[to..to + n].copy_from_slice(&source[from..from + n]);
+    for i in 0..n {
+        list[to + i] = source[from + i];
+    }
 }
 
 // Old entry j laid as entry k where its flag is off; and how many entries stand then.

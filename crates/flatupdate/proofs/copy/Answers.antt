@@ -1,13 +1,17 @@
--- `flatupdate::copy`: the part of the list, written whole.
-use Rattle.std.proofs.Common.{◌≡◌, ◌+◌, ◌-◌, take, drop, length, arith, length-drop, length-take-le}
-use Rattle.flatupdate.proofs.Part.{part_sets}
+-- `flatupdate::copy`: one number more.
+use Rattle.std.proofs.Common.{◌≡◌, ◌+◌, refl, sym, ◌∙◌, arith, length-set}
+use Rattle.flatupdate.proofs.Part.{copy_start, copy_next, copy_end}
 use Rattle.flatupdate.proofs.copy.Goals as goal
+
+pub loop-i-init : goal.loop-i-init
+loop-i-init c = (refl, copy_start c.args.list.now c.args.source.now c.args.to c.args.from c.args.n)
+
+pub loop-i-preserved : goal.loop-i-preserved
+loop-i-preserved c =
+    let l = c.loop-i in
+    (length-set l.list (c.args.to + l.i) _ ∙ l.invariant.0, copy_next l.list c.args.source.now c.args.to c.args.from c.args.n l.i (omega arith) (omega arith) ∙ l.invariant.1)
 
 pub returns : goal.returns
 returns c =
-    let s = c.args in
-    let z : s.from + s.n - s.from ≡ s.n = omega arith in
-    let w : s.to + s.n - s.to ≡ s.n = omega arith in
-    let e : c.copy_from_slice.new.self ≡ take s.n (drop s.from s.source.now) = rw z at c.copy_from_slice.ensures.after in
-    let n : length (take s.n (drop s.from s.source.now)) ≡ s.n = length-take-le s.n (drop s.from s.source.now) (omega (arith, length-drop s.from s.source.now)) in
-    rw (e, w) (part_sets s.list.now (take s.n (drop s.from s.source.now)) s.to s.n (omega arith) n)
+    let l = c.loop-i in
+    sym (copy_end l.list c.args.source.now c.args.to c.args.from c.args.n l.i (omega arith)) ∙ l.invariant.1
