@@ -163,14 +163,13 @@ pub extern "C" fn velomitra_reuse_at(
         return;
     }
     let mut reader = BinReader { list, at };
+    let mut shown = [false; 128];
     match reuse_at(&mut reader, limit, count as u32) {
         Ok(reuse) => {
-            flags.copy_from_slice(&reuse.flags[..count]);
+            shown = reuse.flags;
             lay_answer(out, Ok(reuse.reused), reader.at);
         }
-        Err(refused) => {
-            flags.fill(false);
-            lay_answer(out, Err(refused), reader.at);
-        }
+        Err(refused) => lay_answer(out, Err(refused), reader.at),
     }
+    flags.copy_from_slice(&shown[..count]);
 }
