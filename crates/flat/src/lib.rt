@@ -9,6 +9,7 @@
 ghost use Rattle.std.specs.Prelude.{◌≡◌, false, [], ◌∷◌, map, ◌+◌, ◌*◌, ◌≤◌, min, eqb, length, get_or};
 ghost use Rattle.std.proofs.lemmas.List.Edits.{sets};
 ghost use Rattle.base.specs.Laid.{Laid};
+ghost use Rattle.base.specs.Cells.{laid};
 ghost use Rattle.h265.specs.Strings.{bit};
 ghost use Rattle.model.specs.Domain.{no_color};
 ghost use Rattle.model.specs.Whole.{no_levels};
@@ -36,6 +37,9 @@ fn color_at(list: &[u16], p: usize) -> Color
     requires { p ≤ 4432 }
     ensures { result ≡ color_at list.now p }
 {
+    if p + 3 <= list.len() {
+        return color_in(list, p);
+    }
     Color {
         y: number(list, p, 0),
         cb: number(list, p + 1, 0),
@@ -105,12 +109,11 @@ pub fn indices_of(list: &[u16]) -> [u8; 1024]
     out
 }
 
-// A block's levels, four cells at a turn.
-pub fn escapes_of(list: &[u16]) -> [Levels; 1024]
+// A block's levels onto cells lent for them, four at a turn.
+fn read_escapes(list: &[u16], out: &mut [Levels; 1024])
     requires { 4432 ≤ length list.now }
-    ensures { result ≡ each no_levels 1024 (λ i. levels_at list.now (1360 + 3 * i)) }
+    ensures { out.new ≡ laid (λ i. levels_at list.now (1360 + 3 * i)) out.old 0 1024 }
 {
-    let mut out = [Levels { y: 0, cb: 0, cr: 0 }; 1024];
     for k in 0..256 {
         let i = 4 * k;
         let a = levels_in(list, 1360 + 3 * i);
@@ -122,6 +125,15 @@ pub fn escapes_of(list: &[u16]) -> [Levels; 1024]
         out[i + 2] = c;
         out[i + 3] = d;
     }
+}
+
+// A block's levels.
+pub fn escapes_of(list: &[u16]) -> [Levels; 1024]
+    requires { 4432 ≤ length list.now }
+    ensures { result ≡ each no_levels 1024 (λ i. levels_at list.now (1360 + 3 * i)) }
+{
+    let mut out = [Levels { y: 0, cb: 0, cr: 0 }; 1024];
+    read_escapes(list, &mut out);
     out
 }
 
@@ -149,6 +161,8 @@ fn whole_block(list: &[u16]) -> PaletteCu
     ensures { result ≡ block_of list.now }
 {
     let h = head_of(list);
+    let mut escapes = [Levels { y: 0, cb: 0, cr: 0 }; 1024];
+    read_escapes(list, &mut escapes);
     PaletteCu {
         size: usize::from(h[0]),
         chroma_idc: byte(h[1]),
@@ -163,7 +177,7 @@ fn whole_block(list: &[u16]) -> PaletteCu
         escape_present: h[8] == 1,
         transpose: h[9] == 1,
         indices: indices_of(list),
-        escapes: escapes_of(list),
+        escapes,
         sse: long(h[11], h[12], h[13], h[14]),
         tolerance: u64::from(h[10]),
     }
@@ -205,8 +219,9 @@ fn entries_of(list: &[u16]) -> [Color; 128]
 pub fn predictor_of(list: &[u16]) -> PalettePredictor
     ensures { result ≡ predictor_of list.now }
 {
+    let entries = entries_of(list);
     PalettePredictor {
-        entries: entries_of(list),
+        entries,
         size: usize::from(number(list, 0, 0)),
     }
 }
