@@ -3,9 +3,8 @@
 
 ghost use Rattle.std.specs.Prelude.{◌≡◌, ◌*◌, ◌≤◌, length};
 ghost use Rattle.finish.specs.Found.{found_of};
-ghost use Rattle.paths.specs.Plan.{job, price_of, fresh, planned};
+ghost use Rattle.paths.specs.Plan.{job, price_of, planned};
 ghost use Rattle.rates.specs.Rates.{share_rate};
-ghost use Rattle.relax.specs.Table.{table_of};
 ghost use Rattle.starts.specs.Starts.{terms_of, job_in};
 ghost use Rattle.cheapest.specs.Chart.{Charted};
 
@@ -41,9 +40,9 @@ pub struct Ends {
 
 // The table of the paths, by the tables of the cells and of the sums.
 fn search(paths: &mut Paths, task: &Task) -> Ends
-    requires { table_of paths.old ≡ fresh }
     ensures { Charted (job_in task.now.terms task.now.xs.now task.now.sums.now.short task.now.sums.now.full) task.now.above.now paths.new.pos paths.new.st result.index result.above }
 {
+    paths.clear();
     sweep(paths, task);
     let t = task.terms;
     Ends {
@@ -52,7 +51,7 @@ fn search(paths: &mut Paths, task: &Task) -> Ends
     }
 }
 
-// The cells above, and the table of the paths through a block's cells.
+// The cells above, and the table of the paths through a block's cells, whatever stood in either.
 // Stays arrays: size is the side of the block in them, and no count.
 pub fn chart(
     xs: &[u8; 1024],
@@ -62,7 +61,7 @@ pub fn chart(
     most: u32,
     m: RateModel,
 ) -> Ends
-    requires { (size ≤ 32) × (1 ≤ most) × (most ≤ 64) × (length above.old ≡ 1024) × (table_of paths.old ≡ fresh) }
+    requires { (size ≤ 32) × (1 ≤ most) × (most ≤ 64) × (length above.old ≡ 1024) }
     ensures { Charted (job size (size * size) most xs.now (price_of m most)) above.new paths.new.pos paths.new.st result.index result.above }
 {
     let n = size * size;

@@ -21,7 +21,17 @@ pub struct Paths {
 }
 
 impl Paths {
-    // Before any run: the empty path ends at place 0, and no other slot is reached.
+    // As before any run: the empty path ends at place 0, and no other slot is reached.
+    pub fn clear(&mut self)
+        ensures { table_of self.new ≡ fresh }
+    {
+        self.cost.fill(f32::INFINITY);
+        self.cost[0] = 0.0;
+        self.pos.fill(0);
+        self.st.fill(false);
+    }
+
+    // The table before any run.
     pub fn fresh() -> Paths
         ensures { table_of result ≡ fresh }
     {
@@ -30,8 +40,7 @@ impl Paths {
             pos: [0; 2050],
             st: [false; 2050],
         };
-        paths.cost.fill(f32::INFINITY);
-        paths.cost[0] = 0.0;
+        paths.clear();
         paths
     }
 

@@ -26,9 +26,6 @@ invariant_of-task c =
       measured = tables_of _ _ _ _ _ _ _ _ _ _ _ (omega arith) c.requires.3 (length-replicate {A = ℕ} 1026 0) (length-replicate {A = ℕ} 1026 0) (length-replicate {A = ℕ} 1026 0) c.fill_above.ensures f.0 f.1 f.2;
     }
 
-pub search-requires : goal.search-requires
-search-requires c = c.requires.4
-
 pub returns : goal.returns
 returns c = let h : c.args.size * c.args.size ≤ 32 * 32 = mul-le-mul c.requires.0 c.requires.0 in
     let e = rw c.terms_of.ensures at c.search.ensures in

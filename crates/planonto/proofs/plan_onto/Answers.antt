@@ -5,7 +5,7 @@ use native.Mathlib.Nat.{mul-le-mul}
 use Rattle.planonto.proofs.plan_onto.Goals as goal
 
 pub chart-ends-requires : goal.chart-ends-requires
-chart-ends-requires c = (c.requires.0, c.requires.1, c.requires.2, length-replicate {A = ℕ} 1024 0, c.fresh-paths.ensures)
+chart-ends-requires c = (c.requires.0, c.requires.1, c.requires.2, length-replicate {A = ℕ} 1024 0)
 
 pub overflow_mul-size : goal.overflow_mul-size
 overflow_mul-size c = let h : c.args.size * c.args.size ≤ 32 * 32 = mul-le-mul c.requires.0 c.requires.0 in omega arith
