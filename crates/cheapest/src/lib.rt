@@ -88,7 +88,11 @@ pub fn plan_cells(xs: &[u8; 1024], size: usize, most: u32, m: RateModel) -> Foun
     ensures { result ≡ found_of (planned (job size (size * size) most xs.now (price_of m most))) }
 {
     let mut above = [0; 1024];
-    let mut paths = Paths::fresh();
+    let mut paths = Paths {
+        cost: [0.0; 2050],
+        pos: [0; 2050],
+        st: [false; 2050],
+    };
     let ends = chart(xs, &mut above, &mut paths, size, most, m);
     finish(
         xs,

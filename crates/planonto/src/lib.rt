@@ -106,7 +106,11 @@ pub fn plan_onto(xs: &[u8; 1024], size: usize, most: u32, m: RateModel, list: &m
     ensures { OnList (planned (job size (size * size) most xs.now (price_of m most))) list.old result.count result.total list.new }
 {
     let mut above = [0; 1024];
-    let mut paths = Paths::fresh();
+    let mut paths = Paths {
+        cost: [0.0; 2050],
+        pos: [0; 2050],
+        st: [false; 2050],
+    };
     let ends = chart(xs, &mut above, &mut paths, size, most, m);
     finish_onto(xs, &above, &paths, size * size, ends, list)
 }
