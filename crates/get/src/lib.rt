@@ -24,9 +24,9 @@ impl<'a> BinReader<'a> {
         let Some(&byte) = self.list.get(self.at) else {
             return Err(Refusal::BinsEnd.at(self.at));
         };
-        let one = match u32::from(byte).checked_sub(u32::from(class) * 2) {
-            Some(0) => false,
-            Some(1) => true,
+        let one = match u32::from(byte).wrapping_sub(u32::from(class) * 2) {
+            0 => false,
+            1 => true,
             _ => return Err(Refusal::BinClass.at(self.at)),
         };
         self.at += 1;
