@@ -1,5 +1,5 @@
 -- The reader's levels in the code's numbers, and that they are the block's.
-use Rattle.std.specs.Prelude.{◌≡◌, refl, Bool, true, false, ◌&&◌, List, [], ◌∷◌, ℕ, ◌+◌, ◌≤◌, ◌<◌, eqb, length, take, drop, get_or, Result, Ok, Err}
+use Rattle.std.specs.Prelude.{◌≡◌, refl, Bool, true, false, ◌&&◌, List, [], ◌∷◌, ℕ, suc, ◌+◌, ◌≤◌, ◌<◌, eqb, length, take, drop, get_or, replicate, Result, Ok, Err}
 use Rattle.std.proofs.Common.{arith, pow_mono}
 use Rattle.std.proofs.Math.Numerals.{add-one}
 use Rattle.base.specs.Answer.{Answer, Value, onward, same-value}
@@ -65,6 +65,20 @@ unfolding level_at
 level-small true depth true l p v q h e = omega (arith, ((bits_code depth).back l p q v e).1, pow_mono {i = depth} {j = 16} h)
 level-small false depth true l p v q h e = omega (arith, ((held_code (egk_at 3) (egk 3) 32767 (egk_code 3)).back l p q v e).1.1)
 level-small lossless depth false l p v q h e = omega (arith, same-value e)
+
+-- ---- no escapes
+
+none_here : (x : Bool) → pick x false false ≡ false
+none_here true = refl
+none_here false = refl
+
+-- without escapes each level is 0, and no bin is read
+pub none_at : (lossless : Bool) (depth format size : ℕ) (turned : Bool) (k e i : ℕ) (xs l : List ℕ) (p : ℕ) →
+    each_at (level_at lossless depth) (dues (due_of false format size turned k) e i xs) l p ≡ Value (replicate (length xs) 0) p
+unfolding each_at dues due_of level_at
+none_at lossless depth format size turned k e i [] l p = refl
+none_at lossless depth format size turned k e i (x ∷ xs) l p =
+    rw (none_here (eqb x e), none_at lossless depth format size turned k e (suc i) xs l p)
 
 -- ---- the block's
 

@@ -71,7 +71,7 @@ fn cell_at(
     }
 }
 
-// The levels of component k at the cells.
+// The levels of component k at the cells, all 0 where there are no escapes.
 fn column_at(
     reader: &mut BinReader<'_>,
     cells: &Cells<'_>,
@@ -83,6 +83,9 @@ fn column_at(
     ensures list { reader.new.list ≡ reader.old.list }
 {
     let mut values = [0; 1024];
+    if !cells.escape {
+        return Ok(values);
+    }
     for (i, &index) in cells.indices.iter().enumerate() {
         values[i] = cell_at(reader, cells, k, i, index, depth)? as u16;
     }

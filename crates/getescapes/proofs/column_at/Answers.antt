@@ -1,13 +1,21 @@
 -- `getescapes::column_at`: what was read, before what is left to read, is what was to be read.
-use Rattle.std.proofs.Common.{rules, arith, sym, ◌∙◌, ◌≡◌, refl, take, drop, length}
+use Rattle.std.proofs.Common.{rules, false, ℕ, arith, sym, ◌∙◌, ◌≡◌, refl, take, drop, length}
 use Rattle.std.proofs.Math.Nat.{le_refl}
 use Rattle.std.proofs.Math.ListN.{length-set}
 use Rattle.std.proofs.Math.Seq.{take-length}
+use Rattle.std.proofs.lemmas.List.{take-replicate}
 use Rattle.base.specs.Prepend.{prepend, prepend-none, prepend-push, prepend-end}
 use Rattle.syntax.specs.Block.{dues, level_at}
 use Rattle.syntax.specs.EachTurns.{each_turn, each-refused, each-end}
-use Rattle.getescapes.specs.Read.{due_of, due_turn, due_end, level-small}
+use Rattle.getescapes.specs.Read.{due_of, due_turn, due_end, level-small, none_at}
 use Rattle.getescapes.proofs.column_at.Goals as goal
+
+pub returns-then-not-cells-clause-value : goal.returns-then-not-cells-clause-value
+returns-then-not-cells-clause-value c =
+    let g = c.args in
+    let s = g.cells.now in
+    let f : s.escape ≡ false = search rules in
+    rw (f, take-replicate {X = ℕ} (length s.indices.now) 1024 0 (omega arith)) (sym (none_at s.lossless g.depth s.format s.size s.turned g.k s.e 0 s.indices.now g.reader.now.list.now g.reader.now.at))
 
 pub loop-i-init : goal.loop-i-init
 loop-i-init c = record { room = refl; left = prepend-none _; list = refl }
